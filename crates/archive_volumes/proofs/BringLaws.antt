@@ -1,5 +1,5 @@
 -- Calls that only read, one after another, and what they read where the disk tells.
-use Rattle.std.proofs.Common.{◌≡◌, ℕ, ◌+◌, ◌<◌, ◌≤◌, ◌≢◌, Bool, true, false, IsTrue, if◌then◌else◌, List, length, take, get_or, Option, Some, None, refl, sym, ap, subst, ◌∙◌, inr, ⊎_elim, arith}
+use Rattle.std.proofs.Common.{◌≡◌, ℕ, ◌+◌, ◌<◌, ◌≤◌, ◌≢◌, Bool, true, false, IsTrue, if◌then◌else◌, List, length, take, get_or, Option, Some, None, Ok, Err, refl, sym, ap, subst, ◌∙◌, inr, ⊎_elim, arith}
 use Rattle.std.specs.Prelude.{IsFalse, drop, slice_get}
 use Rattle.std.specs.Str.{bytes_eq}
 use Rattle.std.proofs.lemmas.Bool.{false≢true}
@@ -19,22 +19,24 @@ use Rattle.capture.specs.declared.captured.Kept.{Kept}
 use Rattle.capture.specs.declared.captured.Kept.TheVariants.{Wire, Same, Cut}
 use Rattle.capture.specs.declared.captured.Stored.{Stored}
 use Rattle.capture.specs.declared.framing.Framing.{Framing}
-use Rattle.disk_model.proofs.MomentLaws.{joined}
+use Rattle.disk_model.proofs.MomentLaws.{joined, none_added}
 use Rattle.disk_model.specs.Image.{Image}
 use Rattle.disk_model.specs.declared.disk.Disk.{Ghosts}
 use Rattle.warc_journal.specs.Extents.{texts_in, warc_files}
 use Rattle.warc_journal.specs.Journals.{Rests, disk_of, extent_of, texts}
 use Rattle.warc_journal.specs.declared.extent.Extent.{Extent}
 use Rattle.warc_text.specs.Sound.{IsSound}
+use Rattle.archive_shelf.proofs.CallLaws.{leaves_no_more_itself}
 use Rattle.archive_shelf.specs.Answers.{IsBrought, IsDamaged, IsNamed, IsReplayable, KeepsPayloadOf}
 use Rattle.archive_shelf.specs.Comparing.{KeepsWire}
 use Rattle.archive_volumes.proofs.DecodeLaws.{one_framing}
 use Rattle.archive_volumes.proofs.GroupPlaces.{ends_in_text}
-use Rattle.archive_volumes.specs.Bringing.{AreOf, IsKept, IsReadRight, OnlyReads, brought_of, checked_by}
+use Rattle.archive_volumes.specs.Bringing.{AreOf, IsKept, IsReadRight, OnlyReads, brought_of, checked_by, payload_by}
 use Rattle.archive_volumes.specs.Decoding.{HoldsPayload, IsHead, TellsFraming}
 use Rattle.archive_volumes.specs.Held.{book_of}
 use Rattle.archive_volumes.specs.Spots.{AreHeldWhole, ArePlaced, AreSpotsOf, AreWithin, HasPlace, IsPlaced, IsSpotOf, RefersBack, form_of, head_in, is_cut_form, is_same_form, is_told_form, text_at, wire_in}
-use Rattle.archive_volumes.specs.Volumes.{IsQuiet}
+use Rattle.archive_volumes.specs.Volumes.{IsQuiet, crash_of}
+use Rattle.archive_volumes.specs.declared.payload.ReadBack.{ReadBack}
 use Rattle.archive_volumes.specs.declared.payload.ReadBack.TheVariants as back
 use Rattle.archive_volumes.specs.declared.spot.Form.{Form}
 use Rattle.archive_volumes.specs.declared.spot.Form.TheVariants as forms
@@ -71,6 +73,23 @@ reads_then d old mid new first second = record {
   holds = λ told holds. second.holds told (first.holds told holds);
   measured = λ measured. second.measured (first.measured measured);
   quiet = quiet_then d (disk_of old.journal) (disk_of mid.journal) (disk_of new.journal) first.quiet second.quiet;
+}
+
+-- before the first one
+pub reads_itself : {D : Type 0} (d : Ghosts D) (volumes_now : Volumes D) → OnlyReads d volumes_now volumes_now
+reads_itself d volumes_now = record {
+  held = refl;
+  extent = refl;
+  reading = λ tells. refl;
+  rests = λ tells. record {
+    read = refl;
+    crash = λ image now. now;
+    leaves = none_added d.moment d.images_since (disk_of volumes_now.journal) (λ image. ⊥);
+  };
+  in_step = λ in_step. in_step;
+  holds = λ told holds. holds;
+  measured = λ measured. measured;
+  quiet = leaves_no_more_itself (crash_of d (disk_of volumes_now.journal));
 }
 
 -- the texts stay
@@ -175,6 +194,18 @@ read_right one texts book number spot kept head is framing tells found holds =
         → IsReadRight book number (if b then back.Right head kept.placed.payload else back.Damaged (Some (sha1 kept.placed.payload)))
     by_test true e = right
     by_test false e = absurd (false≢true e)
+
+-- what was read, by its payload
+pub right_read : (read : ReadBack) (payload : List ℕ) → payload_by read ≡ Ok payload → (head : List ℕ) × (read ≡ back.Right head payload)
+right_read (back.Right head other) payload is = (head, cc)
+right_read (back.Damaged found) payload is = absurd (no_payload found payload is)
+  where
+    no_payload : (found : Option (List ℕ)) (payload : List ℕ) → payload_by (back.Damaged found) ≡ Ok payload → ⊥
+    no_payload found payload is = cc
+
+pub damaged_read : (read : ReadBack) (found : Option (List ℕ)) → payload_by read ≡ Err found → read ≡ back.Damaged found
+damaged_read (back.Right head payload) found is = cc
+damaged_read (back.Damaged other) found is = cc
 
 -- ---- a capture by its number
 

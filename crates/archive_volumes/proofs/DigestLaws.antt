@@ -1,5 +1,5 @@
 -- What goes by the digest that is kept of a capture goes by that of its payload.
-use Rattle.std.proofs.Common.{◌≡◌, ◌≢◌, ◌⊎◌, ℕ, ◌<◌, ◌++◌, Bool, true, not, List, [], Option, None, get_or, length, Result, Ok, Err, Some, false, refl, sym, ap, subst, ◌∙◌, inl, inr, ⊎_elim, arith}
+use Rattle.std.proofs.Common.{◌≡◌, ◌≢◌, ◌⊎◌, ℕ, ◌<◌, ◌++◌, Bool, true, not, List, [], Option, None, Result, Ok, Err, Some, false, refl, sym, ap, subst, ◌∙◌, inl, inr, ⊎_elim, arith}
 use Rattle.std.specs.Prelude.{slice_get}
 use Rattle.std.specs.Str.{bytes_eq}
 use Rattle.std.proofs.lemmas.Bool.{false≢true}
@@ -21,10 +21,10 @@ use Rattle.archive_shelf.specs.Digests.{GoesByDigest, HasDigestOf, HasRequest, P
 use Rattle.archive_shelf.specs.declared.fault.BringFault.{BringFault}
 use Rattle.archive_shelf.specs.declared.fault.BringFault.TheVariants as brings
 use Rattle.archive_volumes.proofs.BringLaws.{keeper_keeps, keeps_same, refers_to}
-use Rattle.archive_volumes.proofs.GroupLaws.{got}
 use Rattle.archive_volumes.specs.Digests.{BringsDigest, GoesByKeeper, GoesByKept, GoesByLine, GoesByOwn, HasKeptDigest, IsKeptAt}
 use Rattle.archive_volumes.specs.KeptGroups.{HasFront, IsTold, PieceGoesByKept, TellsDigest}
-use Rattle.archive_volumes.specs.Spots.{HasOwnDigest, IsPlaced, IsSpotOf, form_of, is_same_form, is_told_form}
+use Rattle.archive_volumes.specs.Spots.{HasOwnDigest, IsPlaced, IsSpotOf, form_of, is_same_form, is_told_form, keeper_in}
+use Rattle.archive_volumes.specs.declared.spot.Form.{Form}
 use Rattle.archive_volumes.specs.declared.spot.Form.TheVariants as forms
 use Rattle.archive_volumes.specs.declared.spot.Spot.{Spot}
 
@@ -222,11 +222,18 @@ pub form_at : (spots : List Spot) (number : ℕ) (spot other : Spot) → slice_g
     → other.form ≡ spot.form
 form_at spots number spot other here at = ap (λ (s : Spot). s.form) (sym (one_spot spots number spot other here at))
 
--- the digest that is read by an index is that of the spot which stands there
-pub kept_there : (spots : List Spot) (number : ℕ) (spot : Spot) → number < length spots → spot ≡ get_or spots number spot → (other : Spot)
-    → slice_get spots number ≡ Some other → (get_or spots number spot).digest ≡ other.digest
-kept_there spots number spot less is other at =
-    ap (λ (s : Spot). s.digest) (sym is ∙ one_spot spots number spot other (got spots number spot less is) at)
+-- the form of one whose payload another one keeps: where that is known, and where a line alone told of it
+pub same_form : (form : Form) (first : ℕ) → keeper_in form ≡ Some first → form ≡ forms.Same first
+same_form forms.Whole first is = cc
+same_form (forms.Same other) first is = ap (λ (n : ℕ). forms.Same n) (same_Some other first is)
+same_form forms.Cut first is = cc
+same_form (forms.Told revisit) first is = cc
+
+pub told_form : (form : Form) → is_same_form form ≡ true → keeper_in form ≡ None → form ≡ forms.Told true
+told_form forms.Whole same none = cc
+told_form (forms.Same first) same none = cc
+told_form forms.Cut same none = cc
+told_form (forms.Told revisit) same none = ap (λ (b : Bool). forms.Told b) same
 
 pub own_goes : (spots : List Spot) (number : ℕ) (spot other : Spot) → slice_get spots number ≡ Some spot → slice_get spots number ≡ Some other
     → (found : Option (List ℕ)) → GoesByOwn number other.digest (Err (brings.Damaged number spot.digest found))

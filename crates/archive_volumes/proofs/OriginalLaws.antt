@@ -19,8 +19,10 @@ use Rattle.archive_shelf.specs.Answers.{IsBrought}
 use Rattle.archive_shelf.specs.Comparing.{KeepsWire}
 use Rattle.archive_volumes.proofs.ChooseLaws.{Stands, may_be, rises, there_is, whole_number}
 use Rattle.archive_volumes.specs.Bringing.{brought_of}
-use Rattle.archive_volumes.specs.Rereading.{HasItsPayload, IsFirstTold, IsOwnOf, IsSameOf, TellsOf, id_of_response}
+use Rattle.archive_volumes.specs.Rereading.{HasItsPayload, IsFirstTold, IsOwnOf, IsRereadOf, IsSameOf, TellsOf, id_of_response, revisit_by}
 use Rattle.archive_volumes.specs.Spots.{ArePlaced, AreSpotsOf, IsFoundById, IsPlaced, IsSpotOf, form_of, is_same_form, is_told_form, whole_from}
+use Rattle.archive_volumes.specs.declared.reread.Reread.{Reread}
+use Rattle.archive_volumes.specs.declared.reread.Reread.TheVariants as reread
 use Rattle.archive_volumes.specs.declared.spot.Form.TheVariants as forms
 use Rattle.archive_volumes.specs.declared.spot.Spot.{Spot}
 
@@ -66,10 +68,16 @@ module _ (book : Book) (spots : List Spot) (are : AreSpotsOf book spots) (texts 
   place = placed.each number spot here
 
   -- it is a revisit
-  pub no_own : (head payload : List ℕ) (cut : Bool) → IsOwnOf book number head payload cut → ⊥
+  no_own : (head payload : List ℕ) (cut : Bool) → IsOwnOf book number head payload cut → ⊥
   no_own head payload cut own =
       let stored : its.stored ≡ own.are.has.stored = same_Some its.stored own.are.has.stored (sym its.placed ∙ own.are.has.placed) in
       false≢true (sym own.own ∙ ap is_same_form (ap (λ (s : Stored). form_of s.kept) (sym stored)) ∙ sym its.revisit ∙ ap is_same_form form)
+
+  -- and one is read of it
+  pub revisit_told : (read : Reread) → revisit_by read ≡ None → IsRereadOf book number read → ⊥
+  revisit_told (reread.Own head payload cut) none is = no_own head payload cut is
+  revisit_told (reread.Same head same) none is = cc
+  revisit_told (reread.Damaged found) none is = is
 
   module _ (head : List ℕ) (same : Revisited) (is : IsSameOf book number head same) where
     stored_is : place.has.stored ≡ is.stored

@@ -32,13 +32,14 @@ use Rattle.archive_volumes.proofs.SameGroup.{digest_is, is_own, is_same, same_fo
 use Rattle.archive_volumes.specs.Bringing.{IsChecked, IsReadRight, OnlyReads, brought_of}
 use Rattle.archive_volumes.specs.Decoding.{IsHead}
 use Rattle.archive_volumes.specs.Held.{book_of}
-use Rattle.archive_volumes.specs.Rereading.{BeginWithText, IsAsKept, IsBackThere, IsBroughtThere, IsChosenThere, IsReread, IsRereadBy, HasItsPayload, IsRereadIn, IsRereadOf, IsRereadThere, IsSameOf, IsStoredOf, StandsThere, from_place, own_by, right_by, whole_by}
+use Rattle.archive_volumes.specs.Rereading.{BeginWithText, IsAsKept, IsBackThere, IsBroughtThere, IsChosenThere, IsReread, IsRereadBy, HasItsPayload, IsRereadIn, IsRereadOf, IsRereadThere, IsSameOf, IsStoredOf, IsToldOf, StandsThere, from_place, own_by, revisit_by, right_by, whole_by}
 use Rattle.archive_volumes.specs.Spots.{IsSpotOf, form_of, is_same_form, is_told_form}
 use Rattle.archive_volumes.specs.declared.held.Held.{Held}
 use Rattle.archive_volumes.specs.declared.payload.ReadBack.{ReadBack}
 use Rattle.archive_volumes.specs.declared.payload.ReadBack.TheVariants as back
 use Rattle.archive_volumes.specs.declared.reread.Reread.{Reread}
 use Rattle.archive_volumes.specs.declared.reread.Reread.TheVariants as reread
+use Rattle.archive_volumes.specs.declared.reread.Revisit.{Revisit}
 use Rattle.archive_volumes.specs.declared.spot.Spot.{Spot}
 use Rattle.archive_volumes.specs.declared.volumes.Volumes.{Volumes}
 
@@ -69,21 +70,26 @@ module _ (namespace : List ℕ) (number : ℕ) (text : List ℕ) (group : Group)
       by None here is_some = cc
       by (Some r) here is_some = (r, here)
 
--- what is read of a capture that keeps its wire
-pub own_is_reread : {E : Type 0} (r : Result Reread E) (group : Group) (digest payload : List ℕ) (cut : Bool) → group.digest ≡ digest
+-- what a group tells of a capture that keeps its wire
+pub own_is_reread : {E : Type 0} (r : Result Reread E) (group : Group) (payload : List ℕ) (cut : Bool)
     → HasPayload cut group.stored.method group.stored.head (kept_wire group.stored.kept) payload → group.digest ≡ sha1 payload
-    → IfOk r (λ read. read ≡ reread.Own group.stored.head payload cut) → IfOk r (IsReread digest)
-own_is_reread (Ok read) group digest payload cut same has is own =
-    subst (IsReread digest) (sym own) ((has.parsed, has.whole), sym is ∙ same)
-own_is_reread (Err e) group digest payload cut same has is own = tt
+    → IfOk r (λ read. read ≡ reread.Own group.stored.head payload cut) → IfOk r (IsReread group.digest)
+own_is_reread (Ok read) group payload cut has is own = subst (IsReread group.digest) (sym own) ((has.parsed, has.whole), sym is)
+own_is_reread (Err e) group payload cut has is own = tt
 
-pub own_is_by : {E : Type 0} (r : Result Reread E) (group : Group) (spot : Spot) (payload : List ℕ) (cut : Bool) → IsAsKept group spot
+pub own_is_told : {E : Type 0} (r : Result Reread E) (group : Group) (payload : List ℕ) (cut : Bool)
     → HasPayload cut group.stored.method group.stored.head (kept_wire group.stored.kept) payload
     → cut ≡ is_cut group.stored.kept → is_same_form (form_of group.stored.kept) ≡ false
-    → IfOk r (λ read. read ≡ reread.Own group.stored.head payload cut) → IfOk r (IsRereadBy group spot)
-own_is_by (Ok read) group spot payload cut as_kept has whole keeps own =
-    subst (IsRereadBy group spot) (sym own) (refl, has, whole, keeps, as_kept)
-own_is_by (Err e) group spot payload cut as_kept has whole keeps own = tt
+    → IfOk r (λ read. read ≡ reread.Own group.stored.head payload cut) → IfOk r (IsToldOf group)
+own_is_told (Ok read) group payload cut has whole keeps own = subst (IsToldOf group) (sym own) (refl, has, whole, keeps)
+own_is_told (Err e) group payload cut has whole keeps own = tt
+
+-- where it tells what is kept of that
+pub told_is_by : {E : Type 0} (r : Result Reread E) (group : Group) (spot : Spot) → IsAsKept group spot → IfOk r (IsToldOf group) → IfOk r (IsRereadBy group spot)
+told_is_by (Ok (reread.Own head payload cut)) group spot as_kept told = (told.0, told.1, told.2, told.3, as_kept)
+told_is_by (Ok (reread.Same head same)) group spot as_kept told = (told.0, told.1, as_kept)
+told_is_by (Ok (reread.Damaged found)) group spot as_kept told = absurd told
+told_is_by (Err e) group spot as_kept told = tt
 
 pub reread_by_group : {E : Type 0} (r : Result Reread E) (namespace : List ℕ) (number : ℕ) (bytes : List ℕ) (spot : Spot) (group : Group)
     → BeginsWithGroup namespace number bytes group → IfOk r (IsRereadBy group spot) → IfOk r (IsRereadIn namespace number bytes spot)
@@ -220,6 +226,11 @@ own_brought_there texts namespace number spot head payload there told =
     )
 
 -- and of a revisit
+pub revisit_read : (read : Reread) (revisit : Revisit) → revisit_by read ≡ Some revisit → read ≡ reread.Same revisit.head revisit.same
+revisit_read (reread.Own head payload cut) revisit is = cc
+revisit_read (reread.Same head same) revisit is = ap (λ (r : Revisit). reread.Same r.head r.same) (same_Some (record { head = head; same = same }) revisit is)
+revisit_read (reread.Damaged found) revisit is = cc
+
 pub same_brought_there : (texts : List (List ℕ)) (namespace : List ℕ) (number : ℕ) (spot : Spot) (head payload : List ℕ) (same : Revisited)
     → is_same_form spot.form ≡ true → IsRereadThere texts namespace number spot (reread.Same head same)
     → IsBroughtThere texts namespace number spot (brought_of spot head payload)

@@ -65,6 +65,11 @@ checked_by kept head None = back.Damaged None
 checked_by kept head (Some payload) =
     if bytes_eq (sha1 payload) kept then back.Right head payload else back.Damaged (Some (sha1 payload))
 
+-- the payload, or the digest that it has in place of the one that is kept
+abbrev pub payload_by : ReadBack → Result (List ℕ) (Option (List ℕ))
+payload_by (back.Right head payload) = Ok payload
+payload_by (back.Damaged found) = Err found
+
 -- whatever the disk tells: there is a response's head, and the payload has the digest that is kept; or it hasn't
 abbrev pub IsChecked : List ℕ → ReadBack → Type 0
 IsChecked kept (back.Right head payload) = IsHead head true × (sha1 payload ≡ kept)

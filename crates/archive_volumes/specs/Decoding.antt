@@ -1,5 +1,5 @@
 -- What stands behind a response's head, whatever bytes these are: the framing that it tells, and the payload.
-use Rattle.std.specs.Prelude.{ℕ, ◌^◌, ◌<◌, Bool, true, false, List, length, Option, Some, None, Ok}
+use Rattle.std.specs.Prelude.{◌≡◌, ℕ, ◌^◌, ◌<◌, Bool, true, false, List, length, Option, Some, None, Ok}
 use Rattle.httparse.specs.Grammar.{ResponseHead}
 use Rattle.capture.specs.Body.{IsWire}
 use Rattle.capture.specs.Captures.{HasPayload}
@@ -14,6 +14,11 @@ use Rattle.capture.specs.declared.framing.Framing.TheVariants.{Empty, Length, Ch
 abbrev pub IsHead : List ℕ → Bool → Type 0
 IsHead text true = (h : ResponseHead) × IsResponseHeadText text h
 IsHead text false = (h : ResponseHead) → ¬ (IsResponseHeadText text h)
+
+-- a response's head that stands there; or what stands there is none
+abbrev pub IsHeadAt : List ℕ → Option (List ℕ) → Type 0
+IsHeadAt text (Some head) = head ≡ text
+IsHeadAt text None = IsHead text false
 
 -- the framing of what stands behind a head that answers a request of this method; or that no body which has a length in 64
 -- bits stands behind it

@@ -21,6 +21,7 @@ use Rattle.archive_volumes.specs.declared.payload.ReadBack.{ReadBack}
 use Rattle.archive_volumes.specs.declared.payload.ReadBack.TheVariants as back
 use Rattle.archive_volumes.specs.declared.reread.Reread.{Reread}
 use Rattle.archive_volumes.specs.declared.reread.Reread.TheVariants as reread
+use Rattle.archive_volumes.specs.declared.reread.Revisit.{Revisit}
 use Rattle.archive_volumes.specs.declared.spot.Spot.{Spot}
 
 -- where the book is told: bytes begin with the group of the capture with this number
@@ -55,6 +56,14 @@ pub record IsAsKept (group : Group) (spot : Spot) : Type 0 where
 -- what a group tells by another digest than the one that is kept; none where the digest is the same one
 abbrev pub other_digest : List ℕ → List ℕ → Option (List ℕ)
 other_digest found kept = if bytes_eq found kept then None else Some found
+
+-- what a group tells of its capture: the payload, where it keeps its wire, or what it refers to
+abbrev pub IsToldOf : Group → Reread → Type 0
+IsToldOf group (reread.Own head payload cut) =
+    (head ≡ group.stored.head) × HasPayload cut group.stored.method group.stored.head (kept_wire group.stored.kept) payload
+    × (cut ≡ is_cut group.stored.kept) × (is_same_form (form_of group.stored.kept) ≡ false)
+IsToldOf group (reread.Same head same) = (head ≡ group.stored.head) × (group.same ≡ Some same)
+IsToldOf group (reread.Damaged found) = ⊥
 
 -- what is read of a group, where this is kept of its capture: nothing of one that doesn't tell it
 abbrev pub IsRereadBy : Group → Spot → Reread → Type 0
@@ -150,6 +159,12 @@ abbrev pub IsRereadOf : Book → ℕ → Reread → Type 0
 IsRereadOf book number (reread.Own head payload cut) = IsOwnOf book number head payload cut
 IsRereadOf book number (reread.Same head same) = IsSameOf book number head same
 IsRereadOf book number (reread.Damaged found) = ⊥
+
+-- the revisit that was read, if it is one
+abbrev pub revisit_by : Reread → Option Revisit
+revisit_by (reread.Own head payload cut) = None
+revisit_by (reread.Same head same) = Some (record { head = head; same = same })
+revisit_by (reread.Damaged found) = None
 
 -- what was read of a capture that is to keep its wire: a revisit is damage
 abbrev pub own_by : Reread → ReadBack

@@ -1,5 +1,5 @@
 -- What is kept of the captures in memory, and where they stand in the volumes.
-use Rattle.std.specs.Prelude.{◌≡◌, ◌≢◌, ℕ, suc, ◌+◌, ◌^◌, ◌<◌, ◌≤◌, Bool, true, false, List, [], ◌∷◌, ◌++◌, length, take, drop, slice_get, slice_index_or, Some, if◌then◌else◌, not, ⊤}
+use Rattle.std.specs.Prelude.{◌≡◌, ◌≢◌, ℕ, suc, ◌+◌, ◌^◌, ◌<◌, ◌≤◌, Bool, true, false, List, [], ◌∷◌, ◌++◌, length, take, drop, slice_get, slice_index_or, Option, Some, None, if◌then◌else◌, not, ⊤}
 use Rattle.sha1.specs.Sha1.{sha1}
 use Rattle.capture.specs.Captures.{captures, first_number, kept_wire, HasPayload, IsPayloadOf}
 use Rattle.capture.specs.declared.book.Book.{Book}
@@ -38,6 +38,13 @@ is_same_form forms.Whole = false
 is_same_form (forms.Same first) = true
 is_same_form forms.Cut = false
 is_same_form (forms.Told revisit) = revisit
+
+-- the capture that keeps the wire, where it is known
+abbrev pub keeper_in : Form → Option ℕ
+keeper_in forms.Whole = None
+keeper_in (forms.Same first) = Some first
+keeper_in forms.Cut = None
+keeper_in (forms.Told revisit) = None
 
 -- a line alone told of it: its records weren't read
 abbrev pub is_told_form : Form → Bool

@@ -15,10 +15,9 @@ ghost use Rattle.archive_volumes.specs.Volumes.{HoldsBook, IsMeasured};
 ghost use Rattle.archive_volumes.specs.declared.spot.Form.TheVariants as forms;
 ghost use Rattle.archive_volumes.specs.declared.spot.Spot.{Spot as SpotValue};
 
-use crate::decode::is_response_head;
-use crate::payload::ReadBack;
-use crate::reread::Reread;
-use crate::spot::{Form, Spot};
+use crate::payload::{ReadBack, payload_of};
+use crate::reread::revisit_in;
+use crate::spot::Spot;
 use crate::volumes::Volumes;
 use archive_shelf::BringFault;
 use capture::{Brought, Bytes, Digest, Memory};
@@ -120,22 +119,20 @@ impl<D: Disk> Volumes<D> {
                 found: Some(spot.digest),
             });
         }
-        let head = self.read_part(alloc, spot.head_place())?;
-        if !is_response_head(alloc, head.as_slice())? {
-            return Err(BringFault::Damaged {
-                number,
-                kept: keeper.digest,
-                found: None,
-            });
-        }
+        let head = match self.read_head(alloc, spot)? {
+            Some(head) => head,
+            None => {
+                return Err(BringFault::Damaged {
+                    number,
+                    kept: keeper.digest,
+                    found: None,
+                });
+            }
+        };
         let read = self.read_own(told, alloc, spots, first)?;
-        match read {
-            ReadBack::Right { head: _, payload } => Ok(spot.brought(
-                alloc,
-                Bytes::of(head),
-                payload,
-            )?),
-            ReadBack::Damaged(found) => Err(BringFault::Damaged {
+        match payload_of(read) {
+            Ok(payload) => Ok(spot.brought(alloc, head, payload)?),
+            Err(found) => Err(BringFault::Damaged {
                 number: first,
                 kept: keeper.digest,
                 found,
@@ -172,19 +169,14 @@ impl<D: Disk> Volumes<D> {
     {
         let spot = &spots[number as usize];
         let read = self.reread(told, alloc, spots, number)?;
-        match read {
-            Reread::Own {
-                head: _,
-                payload: _,
-                cut: _,
-            } => not_as_told(number, spot.digest),
-            Reread::Same { head, same } => {
-                match self.original_payload(told, alloc, spots, candidates, &same)? {
-                    Some(payload) => Ok(spot.brought(alloc, head, payload)?),
-                    None => not_as_told(number, spot.digest),
-                }
-            }
-            Reread::Damaged(_) => not_as_told(number, spot.digest),
+        let revisit = match revisit_in(read) {
+            Some(revisit) => revisit,
+            None => return not_as_told(number, spot.digest),
+        };
+        let found = self.original_payload(told, alloc, spots, candidates, &revisit.same)?;
+        match found {
+            Some(payload) => Ok(spot.brought(alloc, revisit.head, payload)?),
+            None => not_as_told(number, spot.digest),
         }
     }
 
@@ -215,16 +207,14 @@ impl<D: Disk> Volumes<D> {
         ensures faults { CountsIf (is_bring_fault result) (D.faults (disk_of self.old.journal)) (D.faults (disk_of self.new.journal)) }
     {
         let spot = &spots[number as usize];
-        match spot.form {
-            Form::Whole => self.bring_own(told, alloc, spots, number),
-            Form::Same(first) => self.bring_same(told, alloc, spots, number, first),
-            Form::Cut => self.bring_own(told, alloc, spots, number),
-            Form::Told { revisit } => {
-                if revisit {
-                    let candidates = table.candidates(&spot.digest);
-                    return self.bring_told(told, alloc, spots, candidates, number);
-                }
-                self.bring_own(told, alloc, spots, number)
+        if !spot.form.is_same() {
+            return self.bring_own(told, alloc, spots, number);
+        }
+        match spot.form.keeper() {
+            Some(first) => self.bring_same(told, alloc, spots, number, first),
+            None => {
+                let candidates = table.candidates(&spot.digest);
+                self.bring_told(told, alloc, spots, candidates, number)
             }
         }
     }

@@ -1,13 +1,13 @@
 //! The payload of a capture that keeps its wire, as the disk has it.
-ghost use Rattle.std.specs.Prelude.{◌≡◌, ℕ, ◌+◌, ◌^◌, ◌<◌, IsTrue, IfOk};
+ghost use Rattle.std.specs.Prelude.{◌≡◌, ℕ, ◌+◌, ◌^◌, ◌<◌, true, IsTrue, IfOk, IfSome};
 ghost use Rattle.warc_journal.specs.Journals.{IsInStep, disk_of, texts};
 ghost use Rattle.archive_shelf.specs.Answers.{CountsIf};
-ghost use Rattle.archive_volumes.specs.Bringing.{IsChecked, IsKept, IsReadRight, OnlyReads, checked_by, is_read_fault};
-ghost use Rattle.archive_volumes.specs.Decoding.{HoldsPayload};
+ghost use Rattle.archive_volumes.specs.Bringing.{IsChecked, IsKept, IsReadRight, OnlyReads, checked_by, is_read_fault, payload_by};
+ghost use Rattle.archive_volumes.specs.Decoding.{HoldsPayload, IsHead, IsHeadAt};
 ghost use Rattle.archive_volumes.specs.Held.{book_of};
-ghost use Rattle.archive_volumes.specs.Spots.{HasPlace, is_cut_form, wire_in};
+ghost use Rattle.archive_volumes.specs.Spots.{HasPlace, head_in, is_cut_form, wire_in};
 
-use crate::decode::{framing_behind, payload_in};
+use crate::decode::{framing_behind, is_response_head, payload_in};
 use crate::part::ReadFault;
 use crate::spot::Spot;
 use crate::volumes::Volumes;
@@ -42,7 +42,38 @@ fn checked(kept: &Digest, head: Bytes, found: Option<Bytes>) -> ReadBack
     }
 }
 
+/// The payload that was read, where it has its digest; or the digest that it has, and none where nothing decodes.
+pub(crate) fn payload_of(read: ReadBack) -> Result<Bytes, Option<Digest>>
+    ensures { result ≡ payload_by read }
+{
+    match read {
+        ReadBack::Right { head: _, payload } => Ok(payload),
+        ReadBack::Damaged(found) => Err(found),
+    }
+}
+
 impl<D: Disk> Volumes<D> {
+    /// The head of a capture, if what stands in its place is one.
+    pub(crate) fn read_head(
+        &mut self,
+        alloc: Global,
+        spot: &Spot,
+    ) -> Result<Option<Bytes>, ReadFault>
+        requires in_step { IsTrue D.tells → IsInStep D.Disk self.old.journal }
+        requires place { IsTrue D.tells → HasPlace (texts D.Disk self.old.journal) spot.now }
+        ensures parsed { IfOk result (λ found. IfSome found (λ head. IsHead head true)) }
+        ensures head { IsTrue D.tells → IfOk result (IsHeadAt (head_in (texts D.Disk self.old.journal) spot.now)) }
+        ensures reads { OnlyReads D.Disk self.old self.new }
+        ensures faults { CountsIf (is_read_fault result) (D.faults (disk_of self.old.journal)) (D.faults (disk_of self.new.journal)) }
+    {
+        let head = self.read_part(alloc, spot.head_place())?;
+        let is_head = is_response_head(alloc, head.as_slice())?;
+        if is_head {
+            return Ok(Some(Bytes::of(head)));
+        }
+        Ok(None)
+    }
+
     /// The payload of the wire that is kept of a capture, by its framing; none where it isn't a body of that framing.
     pub(crate) fn read_payload(
         &mut self,

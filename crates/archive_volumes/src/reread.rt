@@ -7,7 +7,7 @@ ghost use Rattle.warc_scan.specs.declared.group.Revisited.{Revisited as Revisite
 ghost use Rattle.archive_shelf.specs.Answers.{CountsIf};
 ghost use Rattle.archive_volumes.specs.Bringing.{IsChecked, IsReadRight, OnlyReads, is_read_fault};
 ghost use Rattle.archive_volumes.specs.Held.{book_of};
-ghost use Rattle.archive_volumes.specs.Rereading.{IsBackThere, IsReread, IsRereadBy, IsRereadIn, IsRereadOf, IsRereadThere, IsStoredOf, own_by};
+ghost use Rattle.archive_volumes.specs.Rereading.{IsBackThere, IsReread, IsRereadBy, IsRereadIn, IsRereadOf, IsRereadThere, IsStoredOf, IsToldOf, own_by, revisit_by};
 ghost use Rattle.archive_volumes.specs.Spots.{AreSpotsOf, ArePlaced, AreWithin, is_same_form, is_told_form};
 ghost use Rattle.archive_volumes.specs.Volumes.{HoldsBook, IsMeasured};
 ghost use Rattle.archive_volumes.specs.declared.reread.Reread.TheVariants.{Own as OwnRead, Same as SameRead};
@@ -42,6 +42,13 @@ pub(crate) enum Reread {
     /// Its group tells this other digest; or no group with its number stands there, or one of another target, date or method, or which is a
     /// revisit where it isn't to be one (`None`).
     Damaged(Option<Digest>),
+}
+
+/// A revisit, as its group tells it: its head, and the record that it refers to.
+#[derive(Drop)]
+pub(crate) struct Revisit {
+    pub head: Bytes,
+    pub same: Revisited,
 }
 
 /// A capture that keeps its wire, whole or cut, which has a payload.
@@ -85,10 +92,28 @@ fn reread_of(alloc: Global, group: Group, spot: &Spot) -> Result<Reread, Memory>
     ensures read { IfOk result (IsReread spot.now.digest) }
     ensures by { IfOk result (IsRereadBy group spot.now) }
 {
+    let found = group.digest;
+    if found != spot.digest {
+        drop(group);
+        return Ok(Reread::Damaged(Some(found)));
+    }
+    if !is_stored_of(&group.stored, spot) {
+        drop(group);
+        return Ok(Reread::Damaged(None));
+    }
+    told_of(alloc, group)
+}
+
+/// What a group tells of its capture.
+fn told_of(alloc: Global, group: Group) -> Result<Reread, Memory>
+    requires is { (namespace : List ℕ) × (number : ℕ) × (text : List ℕ) × IsGroup namespace number text group }
+    ensures read { IfOk result (IsReread group.digest) }
+    ensures tells { IfOk result (IsToldOf group) }
+{
     let Group {
         number: _,
         stored,
-        digest,
+        digest: _,
         payload_len: _,
         same,
         head_at: _,
@@ -96,12 +121,6 @@ fn reread_of(alloc: Global, group: Group, spot: &Spot) -> Result<Reread, Memory>
         first_len: _,
         len: _,
     } = group;
-    if digest != spot.digest {
-        return Ok(Reread::Damaged(Some(digest)));
-    }
-    if !is_stored_of(&stored, spot) {
-        return Ok(Reread::Damaged(None));
-    }
     let Stored {
         method,
         uri: _,
@@ -146,6 +165,21 @@ fn reread_in(
         // All the bytes are there.
         GroupStep::Need(_) => unreachable!(),
         GroupStep::Memory => Err(Memory),
+    }
+}
+
+/// The revisit that was read, if it is one.
+pub(crate) fn revisit_in(read: Reread) -> Option<Revisit>
+    ensures { result ≡ revisit_by read }
+{
+    match read {
+        Reread::Own {
+            head: _,
+            payload: _,
+            cut: _,
+        } => None,
+        Reread::Same { head, same } => Some(Revisit { head, same }),
+        Reread::Damaged(_) => None,
     }
 }
 

@@ -2,7 +2,7 @@
 ghost use Rattle.std.specs.Prelude.{◌≡◌, ◌+◌, ◌^◌, ◌<◌, ℕ, List, length, ◌++◌, ◌∷◌, [], All, vec_len, Some, IfOk, OnOk, if◌then◌else◌};
 ghost use Rattle.capture.specs.Captures.{kept_wire};
 ghost use Rattle.archive_shelf.specs.Storing.{as_stored, kept_of};
-ghost use Rattle.archive_volumes.specs.Spots.{form_of, is_cut_form, is_same_form, is_told_form, may_be_whole, spot_of, whole_from};
+ghost use Rattle.archive_volumes.specs.Spots.{form_of, is_cut_form, is_same_form, is_told_form, keeper_in, may_be_whole, spot_of, whole_from};
 ghost use Rattle.archive_volumes.specs.Lines.{is_revisit_line, told_spot};
 ghost use Rattle.std.specs.Vec.{vec_capacity};
 
@@ -49,6 +49,18 @@ impl Form {
             Form::Same(_) => false,
             Form::Cut => true,
             Form::Told { revisit: _ } => false,
+        }
+    }
+
+    /// The capture that keeps the wire, where it is known that another one does, and which.
+    pub(crate) fn keeper(self) -> Option<u32>
+        ensures { result ≡ keeper_in self }
+    {
+        match self {
+            Form::Whole => None,
+            Form::Same(first) => Some(first),
+            Form::Cut => None,
+            Form::Told { revisit: _ } => None,
         }
     }
 

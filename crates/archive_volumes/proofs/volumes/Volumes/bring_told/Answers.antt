@@ -1,7 +1,7 @@
 use Rattle.archive_volumes.specs.declared.spot.Spot.{Spot}
 use Rattle.archive_volumes.specs.Spots.{is_same_form}
-use Rattle.archive_volumes.proofs.RereadLaws.{same_brought_there}
-use Rattle.std.proofs.Common.{◌≡◌, true, ℕ, Bool, IsTrue, List, Option, None, Ok, Err, Result, refl, sym, ap, subst, inl, arith}
+use Rattle.archive_volumes.proofs.RereadLaws.{revisit_read, same_brought_there}
+use Rattle.std.proofs.Common.{◌≡◌, true, ℕ, Bool, IsTrue, List, Option, None, Ok, Err, Result, refl, sym, ap, subst, ◌∙◌, inl, arith}
 use Rattle.std.specs.Prelude.{IfSome}
 use Rattle.sha1.specs.Sha1.{sha1}
 use Rattle.capture.specs.declared.book.Book.{Book}
@@ -13,7 +13,7 @@ use Rattle.archive_volumes.proofs.BringLaws.{damaged, named, no_digest, placed_o
 use Rattle.archive_volumes.proofs.ChooseLaws.{numbers_digest, numbers_whole}
 use Rattle.archive_volumes.proofs.DigestLaws.{line_goes, one_spot}
 use Rattle.archive_volumes.proofs.GroupLaws.{got}
-use Rattle.archive_volumes.proofs.OriginalLaws.{first_told, no_own, told_brought}
+use Rattle.archive_volumes.proofs.OriginalLaws.{first_told, revisit_told, told_brought}
 use Rattle.archive_volumes.specs.Bringing.{BringsFrom, brought_of}
 use Rattle.archive_volumes.specs.Decoding.{IsHead}
 use Rattle.archive_volumes.specs.Digests.{GoesByLine}
@@ -49,116 +49,103 @@ original_payload-requires-clause-whole g c =
     let here = got c.args.spots.now c.args.number spot c.requires.below c.index-spots-number.is in
     numbers_whole spot.digest c.args.spots.now c.args.candidates.now (c.requires.candidates spot here)
 
-pub returns-in-Own-clause-brings : goal.returns-in-Own-clause-brings
-returns-in-Own-clause-brings g c =
+pub returns-in-None-clause-brings : goal.returns-in-None-clause-brings
+returns-in-None-clause-brings g c =
     let book = book_of c.args.self.now.held in
     let spot = c.index-spots-number.result in
     let here = got c.args.spots.now c.args.number spot c.requires.below c.index-spots-number.is in
     as_told c.args.told.now.value book c.args.number spot.digest c.not_as_told.result c.not_as_told.ensures
-    (λ told. no_own book c.args.spots.now c.requires.spots (texts g.D.Disk c.args.self.now.journal) (c.requires.placed told) c.args.number spot here
-    (c.requires.form spot here) _ _ _ (subst (λ (r : Reread). IsRereadOf book c.args.number r) c.in-Own.is (c.in_ok-read.ensures.right told)))
+    (λ told. revisit_told book c.args.spots.now c.requires.spots (texts g.D.Disk c.args.self.now.journal) (c.requires.placed told) c.args.number spot here
+    (c.requires.form spot here) c.in_ok-read.read (sym c.revisit_in.ensures ∙ c.in-None.is) (c.in_ok-read.ensures.right told))
 
-pub returns-clause-brings : goal.returns-clause-brings
-returns-clause-brings g c =
-    let book = book_of c.args.self.now.held in
-    let spot = c.index-spots-number.result in
-    as_told c.args.told.now.value book c.args.number spot.digest c.not_as_told-in-Damaged.result c.not_as_told-in-Damaged.ensures
-    (λ told. subst (λ (r : Reread). IsRereadOf book c.args.number r) c.in-Damaged.is (c.in_ok-read.ensures.right told))
-
-pub returns-in-Own-clause-digest : goal.returns-in-Own-clause-digest
-returns-in-Own-clause-digest g c other at =
+pub returns-in-None-clause-digest : goal.returns-in-None-clause-digest
+returns-in-None-clause-digest g c other at =
     let spot = c.index-spots-number.result in
     let here = got c.args.spots.now c.args.number spot c.requires.below c.index-spots-number.is in
     subst (GoesByLine c.args.number other.digest) (sym c.not_as_told.ensures) (line_goes c.args.spots.now c.args.number spot other here at)
 
-pub returns-clause-digest : goal.returns-clause-digest
-returns-clause-digest g c other at =
-    let spot = c.index-spots-number.result in
-    let here = got c.args.spots.now c.args.number spot c.requires.below c.index-spots-number.is in
-    subst (GoesByLine c.args.number other.digest) (sym c.not_as_told-in-Damaged.ensures) (line_goes c.args.spots.now c.args.number spot other here at)
-
 -- ---- what it refers to was looked for
 
-pub returns-in-Some-clause-brings : goal.returns-in-Some-clause-brings
-returns-in-Some-clause-brings g c =
+pub returns-in_ok-brought-in-Some-found-clause-brings : goal.returns-in_ok-brought-in-Some-found-clause-brings
+returns-in_ok-brought-in-Some-found-clause-brings g c =
     let book = book_of c.args.self.now.held in
     let spot = c.index-spots-number.result in
     let here = got c.args.spots.now c.args.number spot c.requires.below c.index-spots-number.is in
     let its = c.requires.spots.each c.args.number spot here in
     let told_texts = texts g.D.Disk c.args.self.now.journal in
     let stays : book_of c.reread.new.self.held ≡ book = ap book_of c.reread.ensures.reads.held in
-    let right : IsTrue c.args.told.now.value → IsSameOf book c.args.number c.in-Same.head c.in-Same.same = λ told.
-    subst (λ (r : Reread). IsRereadOf book c.args.number r) c.in-Same.is (c.in_ok-read.ensures.right told) in
-    let found : (told : IsTrue c.args.told.now.value) → HasItsPayload book (right told).first c.in_ok-payload-in-Same.field-0 = λ told.
-    subst (λ (b : Book). HasItsPayload b (right told).first c.in_ok-payload-in-Same.field-0) stays
-    (c.in_ok-payload-in-Same.ensures.right told (right told).first
-    (subst (λ (b : Book). IsFirstTold b c.in-Same.same c.args.candidates.now (right told).first) (sym stays)
-    (first_told book c.args.spots.now c.requires.spots told_texts (c.requires.placed told) c.args.number spot here (c.requires.form spot here) c.in-Same.head
-    c.in-Same.same (right told) c.args.candidates.now (c.requires.candidates spot here) c.requires.rising))) in
-    let head : IsHead c.in-Same.head true = subst (λ (r : Reread). IsReread spot.digest r) c.in-Same.is (c.in_ok-read.ensures.read spot here) in
-    subst (λ (b : Brought). BringsFrom c.args.told.now.value book c.args.number (Ok b)) (sym c.in_ok-brought-in-Some.ensures) (
-      replayable book c.args.number spot its c.in-Same.head c.in-Some.payload head,
-      named book c.args.number spot its c.in-Same.head c.in-Some.payload,
+    let right : IsTrue c.args.told.now.value → IsSameOf book c.args.number c.in-Some.revisit.head c.in-Some.revisit.same = λ told.
+    subst (λ (r : Reread). IsRereadOf book c.args.number r) (revisit_read c.in_ok-read.read c.in-Some.revisit (sym c.revisit_in.ensures ∙ c.in-Some.is)) (c.in_ok-read.ensures.right told) in
+    let found : (told : IsTrue c.args.told.now.value) → HasItsPayload book (right told).first c.in_ok-found.found = λ told.
+    subst (λ (b : Book). HasItsPayload b (right told).first c.in_ok-found.found) stays
+    (c.in_ok-found.ensures.right told (right told).first
+    (subst (λ (b : Book). IsFirstTold b c.in-Some.revisit.same c.args.candidates.now (right told).first) (sym stays)
+    (first_told book c.args.spots.now c.requires.spots told_texts (c.requires.placed told) c.args.number spot here (c.requires.form spot here) c.in-Some.revisit.head
+    c.in-Some.revisit.same (right told) c.args.candidates.now (c.requires.candidates spot here) c.requires.rising))) in
+    let head : IsHead c.in-Some.revisit.head true = subst (λ (r : Reread). IsReread spot.digest r) (revisit_read c.in_ok-read.read c.in-Some.revisit (sym c.revisit_in.ensures ∙ c.in-Some.is)) (c.in_ok-read.ensures.read spot here) in
+    subst (λ (b : Brought). BringsFrom c.args.told.now.value book c.args.number (Ok b)) (sym c.in_ok-brought-in-Some-found.ensures) (
+      replayable book c.args.number spot its c.in-Some.revisit.head c.in-Some-found.payload head,
+      named book c.args.number spot its c.in-Some.revisit.head c.in-Some-found.payload,
       λ told. told_brought book c.args.spots.now c.requires.spots told_texts (c.requires.placed told) c.args.number spot here (c.requires.form spot here)
-          c.in-Same.head c.in-Same.same (right told) c.in-Some.payload
-          (subst (λ (f : Option (List ℕ)). HasItsPayload book (right told).first f) c.in-Some.is (found told)),
+          c.in-Some.revisit.head c.in-Some.revisit.same (right told) c.in-Some-found.payload
+          (subst (λ (f : Option (List ℕ)). HasItsPayload book (right told).first f) c.in-Some-found.is (found told)),
     )
 
-pub returns-in-Some-clause-digest : goal.returns-in-Some-clause-digest
-returns-in-Some-clause-digest g c other at =
-    subst (λ (b : Brought). GoesByLine c.args.number other.digest (Ok b)) (sym c.in_ok-brought-in-Some.ensures)
-    (subst (λ (f : Option (List ℕ)). IfSome f (λ payload. sha1 payload ≡ other.digest)) c.in-Some.is
-    (c.in_ok-payload-in-Same.ensures.kept other.digest
+pub returns-in_ok-brought-in-Some-found-clause-digest : goal.returns-in_ok-brought-in-Some-found-clause-digest
+returns-in_ok-brought-in-Some-found-clause-digest g c other at =
+    subst (λ (b : Brought). GoesByLine c.args.number other.digest (Ok b)) (sym c.in_ok-brought-in-Some-found.ensures)
+    (subst (λ (f : Option (List ℕ)). IfSome f (λ payload. sha1 payload ≡ other.digest)) c.in-Some-found.is
+    (c.in_ok-found.ensures.kept other.digest
     (numbers_digest other.digest c.args.spots.now c.args.candidates.now (c.requires.candidates other at))))
 
-pub returns-in-Some-clause-reads : goal.returns-in-Some-clause-reads
-returns-in-Some-clause-reads g c =
+pub returns-in_ok-brought-in-Some-found-clause-reads : goal.returns-in_ok-brought-in-Some-found-clause-reads
+returns-in_ok-brought-in-Some-found-clause-reads g c =
     reads_then g.D.Disk c.args.self.now c.reread.new.self c.original_payload.new.self c.reread.ensures.reads c.original_payload.ensures.reads
 
-pub returns-in-Same-clause-brings : goal.returns-in-Same-clause-brings
-returns-in-Same-clause-brings g c =
+pub returns-in-None-found-clause-brings : goal.returns-in-None-found-clause-brings
+returns-in-None-found-clause-brings g c =
     let book = book_of c.args.self.now.held in
     let spot = c.index-spots-number.result in
     let here = got c.args.spots.now c.args.number spot c.requires.below c.index-spots-number.is in
     let told_texts = texts g.D.Disk c.args.self.now.journal in
     let stays : book_of c.reread.new.self.held ≡ book = ap book_of c.reread.ensures.reads.held in
-    let right : IsTrue c.args.told.now.value → IsSameOf book c.args.number c.in-Same.head c.in-Same.same = λ told.
-    subst (λ (r : Reread). IsRereadOf book c.args.number r) c.in-Same.is (c.in_ok-read.ensures.right told) in
-    let found : (told : IsTrue c.args.told.now.value) → HasItsPayload book (right told).first c.in_ok-payload-in-Same.field-0 = λ told.
-    subst (λ (b : Book). HasItsPayload b (right told).first c.in_ok-payload-in-Same.field-0) stays
-    (c.in_ok-payload-in-Same.ensures.right told (right told).first
-    (subst (λ (b : Book). IsFirstTold b c.in-Same.same c.args.candidates.now (right told).first) (sym stays)
-    (first_told book c.args.spots.now c.requires.spots told_texts (c.requires.placed told) c.args.number spot here (c.requires.form spot here) c.in-Same.head
-    c.in-Same.same (right told) c.args.candidates.now (c.requires.candidates spot here) c.requires.rising))) in
-    as_told c.args.told.now.value book c.args.number spot.digest c.not_as_told-in-None.result c.not_as_told-in-None.ensures
-    (λ told. subst (λ (f : Option (List ℕ)). HasItsPayload book (right told).first f) c.in-None.is (found told))
+    let right : IsTrue c.args.told.now.value → IsSameOf book c.args.number c.in-Some.revisit.head c.in-Some.revisit.same = λ told.
+    subst (λ (r : Reread). IsRereadOf book c.args.number r) (revisit_read c.in_ok-read.read c.in-Some.revisit (sym c.revisit_in.ensures ∙ c.in-Some.is)) (c.in_ok-read.ensures.right told) in
+    let found : (told : IsTrue c.args.told.now.value) → HasItsPayload book (right told).first c.in_ok-found.found = λ told.
+    subst (λ (b : Book). HasItsPayload b (right told).first c.in_ok-found.found) stays
+    (c.in_ok-found.ensures.right told (right told).first
+    (subst (λ (b : Book). IsFirstTold b c.in-Some.revisit.same c.args.candidates.now (right told).first) (sym stays)
+    (first_told book c.args.spots.now c.requires.spots told_texts (c.requires.placed told) c.args.number spot here (c.requires.form spot here) c.in-Some.revisit.head
+    c.in-Some.revisit.same (right told) c.args.candidates.now (c.requires.candidates spot here) c.requires.rising))) in
+    as_told c.args.told.now.value book c.args.number spot.digest c.not_as_told-in-None-found.result c.not_as_told-in-None-found.ensures
+    (λ told. subst (λ (f : Option (List ℕ)). HasItsPayload book (right told).first f) c.in-None-found.is (found told))
 
-pub returns-in-Same-clause-digest : goal.returns-in-Same-clause-digest
-returns-in-Same-clause-digest g c other at =
+pub returns-in-None-found-clause-digest : goal.returns-in-None-found-clause-digest
+returns-in-None-found-clause-digest g c other at =
     let spot = c.index-spots-number.result in
     let here = got c.args.spots.now c.args.number spot c.requires.below c.index-spots-number.is in
-    subst (GoesByLine c.args.number other.digest) (sym c.not_as_told-in-None.ensures) (line_goes c.args.spots.now c.args.number spot other here at)
+    subst (GoesByLine c.args.number other.digest) (sym c.not_as_told-in-None-found.ensures) (line_goes c.args.spots.now c.args.number spot other here at)
 
-pub returns-in-Same-clause-reads : goal.returns-in-Same-clause-reads
-returns-in-Same-clause-reads g c =
+pub returns-in-None-found-clause-reads : goal.returns-in-None-found-clause-reads
+returns-in-None-found-clause-reads g c =
     reads_then g.D.Disk c.args.self.now c.reread.new.self c.original_payload.new.self c.reread.ensures.reads c.original_payload.ensures.reads
 
-pub returns-in_err-payload-in-Same-clause-reads : goal.returns-in_err-payload-in-Same-clause-reads
-returns-in_err-payload-in-Same-clause-reads g c =
+pub returns-in_err-found-clause-reads : goal.returns-in_err-found-clause-reads
+returns-in_err-found-clause-reads g c =
     reads_then g.D.Disk c.args.self.now c.reread.new.self c.original_payload.new.self c.reread.ensures.reads c.original_payload.ensures.reads
 
-pub returns-in_err-brought-in-Some-clause-reads : goal.returns-in_err-brought-in-Some-clause-reads
-returns-in_err-brought-in-Some-clause-reads g c =
+pub returns-in_err-brought-in-Some-found-clause-reads : goal.returns-in_err-brought-in-Some-found-clause-reads
+returns-in_err-brought-in-Some-found-clause-reads g c =
     reads_then g.D.Disk c.args.self.now c.reread.new.self c.original_payload.new.self c.reread.ensures.reads c.original_payload.ensures.reads
 
-pub returns-in-Some-clause-there : goal.returns-in-Some-clause-there
-returns-in-Some-clause-there g c tells other at =
+pub returns-in_ok-brought-in-Some-found-clause-there : goal.returns-in_ok-brought-in-Some-found-clause-there
+returns-in_ok-brought-in-Some-found-clause-there g c tells other at =
     let spot = c.index-spots-number.result in
     let all = texts g.D.Disk c.args.self.now.journal in
     let namespace = (book_of c.args.self.now.held).namespace in
     let here = got c.args.spots.now c.args.number spot c.requires.below c.index-spots-number.is in
-    subst (IsBroughtThere all namespace c.args.number other) (sym c.in_ok-brought-in-Some.ensures)
-    (subst (λ (s : Spot). IsBroughtThere all namespace c.args.number s (brought_of spot c.in-Same.head c.in-Some.payload))
+    subst (IsBroughtThere all namespace c.args.number other) (sym c.in_ok-brought-in-Some-found.ensures)
+    (subst (λ (s : Spot). IsBroughtThere all namespace c.args.number s (brought_of spot c.in-Some.revisit.head c.in-Some-found.payload))
     (one_spot c.args.spots.now c.args.number spot other here at)
-    (same_brought_there all namespace c.args.number spot c.in-Same.head c.in-Some.payload c.in-Same.same (ap is_same_form (c.requires.form spot here))
-    (subst (IsRereadThere all namespace c.args.number spot) c.in-Same.is (c.in_ok-read.ensures.there tells spot here))))
+    (same_brought_there all namespace c.args.number spot c.in-Some.revisit.head c.in-Some-found.payload c.in-Some.revisit.same (ap is_same_form (c.requires.form spot here))
+    (subst (IsRereadThere all namespace c.args.number spot) (revisit_read c.in_ok-read.read c.in-Some.revisit (sym c.revisit_in.ensures ∙ c.in-Some.is)) (c.in_ok-read.ensures.there tells spot here))))

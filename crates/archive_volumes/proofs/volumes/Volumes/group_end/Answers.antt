@@ -2,6 +2,7 @@ use Rattle.std.proofs.Common.{◌≡◌, ℕ, ap, subst, ◌∙◌, arith}
 use Rattle.std.specs.Prelude.{length}
 use Rattle.std.proofs.lemmas.Option.{slice_get_within}
 use Rattle.warc_journal.specs.Journals.{texts}
+use Rattle.archive_volumes.proofs.BringLaws.{reads_itself}
 use Rattle.archive_volumes.proofs.GroupLaws.{if_ok_so}
 use Rattle.archive_volumes.proofs.KeptGroupLaws.{ends_at_next, ends_at_text, within_next, within_text}
 use Rattle.archive_volumes.proofs.PieceFronts.{spot_there}
@@ -57,3 +58,6 @@ returns-in-None-clause-end g c told =
     (c.text_len.ensures.len (c.requires.holds.tells told))
     (λ len is. ends_at_text all book c.args.spots.now c.args.number (c.requires.placed told) one.0 one.1 len
     (is ∙ ap (λ (v : ℕ). length (text_at all v)) volume))
+
+pub returns-in-Some-clause-reads : goal.returns-in-Some-clause-reads
+returns-in-Some-clause-reads g c = reads_itself g.D.Disk c.args.self.now

@@ -1,7 +1,7 @@
 use Rattle.std.proofs.Common.{◌≡◌, ◌≤◌, ◌+◌, ℕ, List, length, take, drop, sym, ap, ◌∙◌, arith}
 use Rattle.warc_journal.specs.Journals.{texts}
 use Rattle.warc_journal.specs.declared.place.Place.{Place}
-use Rattle.archive_volumes.proofs.BringLaws.{reads_then, texts_stay}
+use Rattle.archive_volumes.proofs.BringLaws.{reads_itself, reads_then, texts_stay}
 use Rattle.archive_volumes.proofs.PieceLaws.{alike_more, all_alike, equal_by, piece_is, wire_long}
 use Rattle.archive_volumes.specs.Spots.{part, text_at, wire_in}
 use Rattle.archive_volumes.proofs.volumes.Volumes.keeps_bytes.Goals as goal
@@ -53,3 +53,6 @@ returns-clause-keeps g c told same =
     wire_long (texts g.D.Disk c.args.self.now.journal) spot (c.requires.place told)
     ∙ sym (ap (λ (p : Place). p.len) c.wire_place-wire.ensures) ∙ c.if-wire-bytes.false in
     all_alike text bytes c.comparing.done long c.comparing-test.false (c.comparing.invariant.alike told)
+
+pub returns-then-wire-bytes-clause-reads : goal.returns-then-wire-bytes-clause-reads
+returns-then-wire-bytes-clause-reads g c = reads_itself g.D.Disk c.args.self.now

@@ -4,6 +4,7 @@ use Rattle.sha1.specs.Sha1.{sha1}
 use Rattle.revisit_table.specs.Table.{numbers_of}
 use Rattle.warc_journal.specs.Journals.{texts}
 use Rattle.archive_shelf.specs.declared.fault.StoreFault.{StoreFault}
+use Rattle.archive_volumes.proofs.BringLaws.{reads_itself}
 use Rattle.archive_volumes.proofs.ChooseLaws.{candidates_whole, chosen_kept, looks_err, looks_exit, right_chosen, right_empty, right_found, since_by}
 use Rattle.archive_volumes.proofs.SinceLaws.{since_exit}
 use Rattle.archive_volumes.specs.Held.{book_of}
@@ -58,3 +59,9 @@ pub returns-in_ok-same-in-None-clause-digest : goal.returns-in_ok-same-in-None-c
 returns-in_ok-same-in-None-clause-digest g c payload is _ =
     chosen_kept c.args.told.now.value (book_of c.args.self.now.held) c.args.looked.upto payload c.args.spots.now c.args.candidates.now (c.requires.candidates payload is)
     c.in_ok-same-in-None.same (c.in_ok-same-in-None.ensures.chooses payload is)
+
+pub returns-then-has_no_bytes-clause-reads : goal.returns-then-has_no_bytes-clause-reads
+returns-then-has_no_bytes-clause-reads g c = reads_itself g.D.Disk c.args.self.now
+
+pub returns-in-Some-clause-reads : goal.returns-in-Some-clause-reads
+returns-in-Some-clause-reads g c = reads_itself g.D.Disk c.args.self.now

@@ -1,6 +1,7 @@
 use Rattle.std.proofs.Common.{sym, ap, ◌∙◌}
 use Rattle.std.proofs.lemmas.Option.{same_Some}
 use Rattle.capture.specs.declared.captured.Stored.{Stored}
+use Rattle.archive_volumes.proofs.BringLaws.{reads_itself}
 use Rattle.archive_volumes.proofs.ChooseLaws.{its_bound}
 use Rattle.archive_volumes.proofs.GroupLaws.{got}
 use Rattle.archive_volumes.specs.Held.{book_of}
@@ -22,3 +23,6 @@ returns-clause-right g c told keeps tells =
       uri = its.uri ∙ ap (λ (s : Stored). s.uri) stored ∙ sym tells.uri_is;
       id = sym tells.id_is;
     }))
+
+pub returns-clause-reads : goal.returns-clause-reads
+returns-clause-reads g c = reads_itself g.D.Disk c.args.self.now
