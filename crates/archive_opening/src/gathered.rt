@@ -11,16 +11,16 @@ ghost use Rattle.volume_scan.specs.Scannings.{IsHeaded};
 ghost use Rattle.warc_scan.specs.Headed.{HasItsParts};
 ghost use Rattle.warc_scan.specs.Infos.{IsInfo};
 ghost use Rattle.warc_text.specs.Ids.{IsUuid};
-ghost use Rattle.archive_shelf.specs.Storing.{empty_book};
+ghost use Rattle.archive_shelf.specs.Storing.{empty_book, with_capture};
 ghost use Rattle.archive_opening.specs.Gathering.{FitsFound, FitsGroup, Gathers, HasAdded, HasBegun, HasTaken, HasVolumeMore, IsGathered, IsRefused, IsSteady, MayStand};
 ghost use Rattle.archive_volumes.specs.Held.{book_of, stored_in};
 ghost use Rattle.archive_volumes.specs.Lines.{told_spot};
 ghost use Rattle.archive_opening.specs.Lines.{AreLinesIn, AreNext, ArePlacedIn, HasAddedLine, HasCome, HasMoreCaptures, IsSoFar, capture_by};
-ghost use Rattle.archive_opening.specs.Noting.{IsGroupAt, IsSomeGroup};
+ghost use Rattle.archive_opening.specs.Noting.{IsGroupAt, IsSomeGroup, IsWithin};
 ghost use Rattle.archive_opening.specs.Opening.{CountsFault, IsCause, IsDeadEnd, IsIn, IsOther};
 ghost use Rattle.archive_opening.specs.Refusing.{IsUnfit, IsUnfitGroup, IsUnfitVolume};
 ghost use Rattle.archive_opening.specs.Revisits.{MayRefer, RefersRight, RefersToNone};
-ghost use Rattle.archive_volumes.specs.Spots.{AreWithin, form_of, is_told_form, may_be_whole};
+ghost use Rattle.archive_volumes.specs.Spots.{AreWithin, may_be_whole};
 ghost use Rattle.archive_opening.specs.Telling.{HasBegunOne, HasTakenOne, IsMadeUp, RefersAt, Shapes};
 ghost use Rattle.archive_volumes.specs.Choosing.{MayBeWholeAt};
 ghost use Rattle.archive_opening.specs.declared.gathered.Refusal.TheVariants.{Damaged as IsDamaged, Memory as IsMemory};
@@ -31,8 +31,8 @@ use crate::measuring::told_length;
 use crate::noting::{Noted, note, passes_bounds};
 use crate::originals::{Sought, first_met};
 use archive_shelf::ReopenFault;
-use archive_volumes::{Held, Spot, StoredGhost};
-use capture::{Book, Digest, Kept, Memory, captures_have_one_payload};
+use archive_volumes::{Form, Held, Spot, StoredGhost};
+use capture::{Book, Digest, Memory, captures_have_one_payload};
 use cdxj_index::Entry;
 use cdxj_line::Line;
 use disk_model::Kind;
@@ -128,6 +128,9 @@ impl Gathered {
             None => None,
         }
     }
+
+    /// Lets it go: one function does so for each refusal, since its parts are let go one by one.
+    pub(crate) fn let_go(self) {}
 
     /// Its parts: the book without its bytes, what is kept of the captures, their digests, of which the table may still have to be
     /// made, and the entries by number.
@@ -245,12 +248,8 @@ impl Gathered {
     {
         reading_laws();
         accepted_targets_have_keys();
-        let number = self.spots.len() as u32;
-        if passes_bounds(number, &place, &read.group) {
-            return Err(Refusal::Damaged);
-        }
-        settle_for(alloc, &mut self.table, &read.group)?;
-        let first = match self.original(&read.group, &read.head) {
+        // The one exit at which what was read is let go, part by part.
+        let first = match self.first_for(alloc, &place, &read) {
             Ok(first) => first,
             Err(refusal) => return Err(refusal),
         };
@@ -262,6 +261,40 @@ impl Gathered {
             Ok(()) => Ok(()),
             Err(Memory) => Err(Refusal::Memory),
         }
+    }
+
+    /// The number of the capture that a group refers to, if it refers to any, by the table, which is made ready for that. A group with which
+    /// a bound is passed, and one that refers to none of the captures before, are damage.
+    fn first_for(
+        &mut self,
+        alloc: Global,
+        place: &Place,
+        read: &HeadedGroup,
+    ) -> Result<Option<u32>, Refusal>
+        requires steady { IsSteady self.old }
+        requires fits { FitsGroup self.old place.now read.now.group }
+        requires headed { HasItsParts read.now }
+        ensures others { self.new ≡ record self.old { table = self.new.table } }
+        ensures kept { OnOk result (self.new.table.kept ≡ self.old.table.kept) }
+        ensures within { IfOk result (λ _. IsWithin (length self.old.spots.items) place.now read.now.group) }
+        ensures found { (known : Option BookValue) (texts : List (List ℕ)) (text : List ℕ) → IsGathered known self.old texts
+            → IsGroupAt (book_of self.old.held) texts text place.now read.now.group → MayStand known (with_more texts text)
+            → IfOk result (RefersRight (book_of self.old.held) read.now.group) }
+        ensures damaged { (known : Option BookValue) (texts : List (List ℕ)) (text : List ℕ) → IsGathered known self.old texts
+            → IsGroupAt (book_of self.old.held) texts text place.now read.now.group
+            → IfErr result (λ refusal. refusal ≡ IsDamaged → IsDeadEnd known (with_more texts text)) }
+        ensures unfit { IfErr result (λ refusal. refusal ≡ IsDamaged
+            → IsUnfitGroup (length (captures (book_of self.old.held))) place.now read.now.group) }
+        ensures whole { IfOk result (λ first. IfSome first (MayBeWholeAt self.old.spots.items)) }
+        ensures refers { IfOk result (RefersAt read.now.group.same) }
+    {
+        reading_laws();
+        let number = self.spots.len() as u32;
+        if passes_bounds(number, place, &read.group) {
+            return Err(Refusal::Damaged);
+        }
+        settle_for(alloc, &mut self.table, &read.group)?;
+        self.original(&read.group, &read.head)
     }
 
     /// The number of the capture that a group refers to, if it refers to any; damage, where it refers to none of those before.
@@ -318,15 +351,32 @@ impl Gathered {
             length,
             entry,
         } = noted;
+        let shown = StoredGhost::of(&stored);
+        let spot = Spot::of(stored, digest, volume, at, head_at);
+        self.enter(spot, length, shown)?;
+        add_entry(&mut self.entries, entry)
+    }
+
+    /// Adds the next capture without its entry: what is kept of it, the length of its payload, and its digest where the table has that.
+    fn enter(&mut self, spot: Spot, payload_len: u64, shown: StoredGhost) -> Result<(), Memory>
+        requires steady { IsSteady self.old }
+        requires volume { 0 < length (book_of self.old.held).volumes }
+        requires few { length self.old.spots.items + 1 < 2 ^ 32 - 1 }
+        ensures steady { OnOk result (IsSteady self.new) }
+        ensures book { OnOk result (book_of self.new.held ≡ with_capture (book_of self.old.held) (stored_in shown)) }
+        ensures spots { OnOk result (self.new.spots.items ≡ self.old.spots.items ++ spot ∷ []) }
+        ensures lengths { OnOk result (self.new.lengths.items ≡ self.old.lengths.items ++ payload_len ∷ []) }
+        ensures entries { self.new.entries.items ≡ self.old.entries.items }
+    {
         let number = self.spots.len() as u32;
-        let whole = is_whole(&stored.kept);
+        let whole = may_be_whole(spot.form);
+        let digest = spot.digest;
+        // First what is owned, so that no later exit has it to let go.
+        self.spots.push(spot)?;
         add_digest(&mut self.table, whole, &digest, number)?;
-        add_entry(&mut self.entries, entry)?;
-        self.lengths.push(length)?;
+        self.lengths.push(payload_len)?;
         self.held.reserve()?;
-        self.held.add(&stored);
-        self.spots
-            .push(Spot::of(stored, digest, volume, at, head_at))?;
+        self.held.add_ghost(shown);
         Ok(())
     }
 
@@ -371,22 +421,21 @@ impl Gathered {
         ensures added { OnOk result (HasAddedLine self.old self.new (capture_by known.now.value line) line) }
     {
         let spot = Spot::of_line(&line)?;
-        let whole = is_whole_told(&spot);
-        add_digest(&mut self.table, whole, &line.digest, line.number)?;
-        self.lengths.push(0)?;
-        self.held.reserve()?;
-        self.held.add_ghost(told_ghost(&line, known));
-        self.spots.push(spot)?;
+        self.enter(spot, 0, told_ghost(&line, known))?;
         add_entry(&mut self.entries, entry_in(line))
     }
 }
 
-/// Whether a capture may keep its whole wire, of which a line alone told.
-fn is_whole_told(spot: &Spot) -> bool
-    requires { is_told_form spot.now.form ≡ true }
-    ensures { result ≡ may_be_whole spot.now.form }
+/// Whether a capture keeps its whole wire, or may do so, where a line alone told of it.
+fn may_be_whole(form: Form) -> bool
+    ensures { result ≡ may_be_whole form }
 {
-    !spot.form.is_same()
+    match form {
+        Form::Whole => true,
+        Form::Same(_) => false,
+        Form::Cut => false,
+        Form::Told { revisit } => !revisit,
+    }
 }
 
 /// A line, and the book that may be known.
@@ -450,15 +499,4 @@ fn add_entry(entries: &mut Vec<Entry>, entry: Option<Entry>) -> Result<(), Memor
         entries.push(entry)?;
     }
     Ok(())
-}
-
-/// Whether a whole wire is kept.
-fn is_whole(kept: &Kept) -> bool
-    ensures { result ≡ may_be_whole (form_of kept.now) }
-{
-    match kept {
-        Kept::Wire(_) => true,
-        Kept::Same(_) => false,
-        Kept::Cut(_) => false,
-    }
 }

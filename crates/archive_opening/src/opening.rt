@@ -98,7 +98,10 @@ pub fn open_volumes<D: Disk>(
     let mut gathered = Gathered::in_namespace(alloc, asked);
     match read_all(alloc, &mut scanning, &mut gathered) {
         Ok(()) => finish(alloc, scanning, gathered, asked),
-        Err(fault) => Err((fault, scanning.into_disk())),
+        Err(fault) => {
+            gathered.let_go();
+            Err((fault, scanning.into_disk()))
+        }
     }
 }
 
@@ -123,13 +126,17 @@ fn finish<D: Disk>(
 {
     let journal = scanning.finish();
     if journal.volumes() == 0 {
+        gathered.let_go();
         return Ok(Opened {
             journal,
             gathered: Gathered::in_namespace(alloc, asked),
         });
     }
     match gathered.other_than(asked) {
-        Some(fault) => Err((fault, journal.into_disk())),
+        Some(fault) => {
+            gathered.let_go();
+            Err((fault, journal.into_disk()))
+        }
         None => Ok(Opened { journal, gathered }),
     }
 }

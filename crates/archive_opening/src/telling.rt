@@ -352,17 +352,22 @@ fn finish<D: Disk>(
     files_stand_for_one_book();
     let journal = scanning.finish();
     if journal.volumes() == 0 {
+        gathered.let_go();
         return Ok(Opened {
             journal,
             gathered: Gathered::in_namespace(alloc, asked),
         });
     }
     if journal.last_len() >= TEXT_BOUND {
+        gathered.let_go();
         let last = journal.volumes() - 1;
         return Err((damaged(last, 0), journal.into_disk()));
     }
     match gathered.other_than(asked) {
-        Some(fault) => Err((fault, journal.into_disk())),
+        Some(fault) => {
+            gathered.let_go();
+            Err((fault, journal.into_disk()))
+        }
         None => Ok(Opened { journal, gathered }),
     }
 }
@@ -401,6 +406,9 @@ pub fn open_by_checkpoints<D: Disk>(
     let mut gathered = Gathered::in_namespace(alloc, asked);
     match read_each(alloc, &mut scanning, &mut gathered, &sure) {
         Ok(()) => finish(alloc, scanning, gathered, asked, &sure),
-        Err(fault) => Err((fault, scanning.into_disk())),
+        Err(fault) => {
+            gathered.let_go();
+            Err((fault, scanning.into_disk()))
+        }
     }
 }

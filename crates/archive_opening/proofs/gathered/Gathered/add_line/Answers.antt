@@ -1,35 +1,33 @@
-use Rattle.std.proofs.Common.{rules, ◌≡◌, ◌++◌, ap, ◌∙◌, arith}
+use Rattle.std.proofs.Common.{◌≡◌, ◌++◌, ◌∷◌, [], List, ap, ◌∙◌}
 use Rattle.std.specs.Prelude.{option_to_list}
-use Rattle.capture.specs.Captures.{captures}
-use Rattle.capture.specs.declared.book.Book.{Book}
-use Rattle.capture.specs.declared.captured.Stored.{Stored}
 use Rattle.std.proofs.lemmas.Result.{on_ok_weaker}
-use Rattle.archive_shelf.proofs.GainingSoundness.{no_volumes}
-use Rattle.archive_shelf.proofs.StoringLaws.{captures_more}
+use Rattle.capture.specs.declared.captured.Stored.{Stored}
+use Rattle.cdxj_index.specs.Facts.{Facts}
 use Rattle.archive_shelf.specs.Storing.{with_capture}
 use Rattle.archive_volumes.specs.Held.{book_of}
-use Rattle.archive_volumes.specs.Lines.{told_spot}
 use Rattle.archive_volumes.specs.declared.spot.Spot.{Spot}
 use Rattle.archive_opening.specs.Gathering.{IsInStepWith}
-use Rattle.archive_opening.specs.Lines.{capture_by}
-use Rattle.archive_opening.proofs.CandidateLaws.{above_by, steady_with}
+use Rattle.archive_opening.specs.Lines.{HasAddedLine, capture_by}
 use Rattle.archive_opening.proofs.gathered.Gathered.add_line.Goals as goal
-
-pub add_digest-requires : goal.add_digest-requires
-add_digest-requires c = record {
-  above = above_by c.args.self.now.spots.items c.args.self.now.table.kept c.args.line.number c.requires.steady.table_is c.requires.number;
-}
 
 pub returns-clause-steady : goal.returns-clause-steady
 returns-clause-steady c =
+    let mid = c.enter.new.self in
+    on_ok_weaker {P = c.add_entry.new.entries.items ≡ mid.entries.items ++ option_to_list c.entry_in.result}
+    {Q = IsInStepWith (book_of mid.held) mid.spots.items mid.table.kept mid.lengths.items} c.add_entry.result (λ _. c.in_ok-enter.ensures.steady) c.add_entry.ensures
+
+pub returns-clause-added : goal.returns-clause-added
+returns-clause-added c =
     let was = c.args.self.now in
-    let old : Book = book_of was.held in
+    let mid = c.enter.new.self in
     let stored : Stored = capture_by c.args.known.now.value c.args.line in
-    let spot : Spot = told_spot c.args.line in
-    let book : book_of c.add_ghost.new.self ≡ with_capture old stored = search rules in
-    let gains = ap (λ (b : Book). captures b) book ∙ captures_more old.volumes stored (no_volumes old.volumes c.requires.volume) in
-    let steady : IsInStepWith (book_of c.add_ghost.new.self) c.push-2.new.self.items c.add_digest.new.table.kept c.push.new.self.items =
-    steady_with old (book_of c.add_ghost.new.self) stored was.spots.items c.push-2.new.self.items spot was.table.kept c.add_digest.new.table.kept was.lengths.items
-    c.push.new.self.items 0 c.requires.steady gains (search rules) (search rules) (search rules) (omega (arith, c.requires.few, c.requires.number)) in
-    on_ok_weaker {P = c.add_entry.new.entries.items ≡ c.args.self.now.entries.items ++ option_to_list c.entry_in.result}
-    {Q = IsInStepWith (book_of c.add_ghost.new.self) c.push-2.new.self.items c.add_digest.new.table.kept c.push.new.self.items} c.add_entry.result (λ _. steady) c.add_entry.ensures
+    on_ok_weaker {P = c.add_entry.new.entries.items ≡ mid.entries.items ++ option_to_list c.entry_in.result}
+    {Q = HasAddedLine was (record mid { entries = c.add_entry.new.entries }) stored c.args.line} c.add_entry.result
+    (λ more. record {
+      book = c.in_ok-enter.ensures.book ∙ ap (λ (s : Stored). with_capture (book_of was.held) s) c.told_ghost.ensures;
+      spots = c.in_ok-enter.ensures.spots ∙ ap (λ (s : Spot). was.spots.items ++ s ∷ []) c.in_ok-spot.ensures;
+      lengths = c.in_ok-enter.ensures.lengths;
+      entry = c.entry_in.result;
+      entries = more ∙ ap (λ (l : List Facts). l ++ option_to_list c.entry_in.result) c.enter.ensures.entries;
+      enters = c.entry_in.ensures;
+    }) c.add_entry.ensures
