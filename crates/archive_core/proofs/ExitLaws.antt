@@ -72,7 +72,7 @@ use Rattle.archive_core.proofs.StoredLaws.{archive_left, archive_stored}
 use Rattle.archive_volumes.proofs.TakenGroup.{IsGroupWith}
 use Rattle.archive_volumes.proofs.WrittenLaws.{rests_itself, texts_done, texts_refused}
 use Rattle.archive_volumes.proofs.WayLaws.{by_rule, group_with, needed_by, room_captures, room_gains, room_namespace, room_some, way}
-use Rattle.archive_core.proofs.NamedLaws.{behind_new, named_after, named_same, numbered_new}
+use Rattle.archive_core.proofs.NamedLaws.{named_after, named_same, numbered_new}
 
 -- ---- without memory: all is as it was, but for what is reserved
 
@@ -226,6 +226,16 @@ under_way {D} d basis seen was old now incoming ready seen_is old_journal old_bo
     (subst (λ (held : Holdings D). length (captures held.book) < held.limits.captures) (sym seen_is) not_full) digest
     (subst (λ (held : Holdings D). RefersTo (contents_of held) incoming.taken incoming.same) (sym seen_is) refers)
 
+-- what is handed back is what was handed over
+pub handed_back : {D : Type 0} (old now : Volumes D) (limit : ℕ) (incoming : Incoming) (ready back : Ready) → back ≡ ready
+    → ((payload : List ℕ) → incoming.digest ≡ sha1 payload → IsReady old now limit incoming payload ready)
+    → (payload : List ℕ) → incoming.digest ≡ sha1 payload → IsReady old now limit incoming payload back
+handed_back old now limit incoming ready back same is payload digested =
+    subst (λ (r : Ready). IsReady old now limit incoming payload r) (sym same) (is payload digested)
+
+pub record_back : {D : Type 0} (now : Volumes D) (ready back : Ready) (at : RecordAt) (n : ℕ) → back ≡ ready → at ≡ record_in now ready n → at ≡ record_in now back n
+record_back now ready back at n same is = subst (λ (r : Ready). at ≡ record_in now r n) (sym same) is
+
 -- the texts of the volumes with room
 pub texts_by : {D : Type 0} (now : Volumes D) (all : List (List ℕ)) (prepared : Option Prepared) → VolumesAddTheirText
     → AreVolumeTexts (book_of now.held) all → HasRoomFor now prepared → AreVolumeTexts (with_prepared (book_of now.held) prepared) (texts_with all prepared)
@@ -343,10 +353,6 @@ module _ {D : Type 0} (d : Ghosts D) (basis : StoringBasis) (was : Holdings D) (
       (enters : (h : grammar.ResponseHead) → IsResponseHeadText (stored_in ready.stored).head h → EntersAs (stored_in ready.stored) h at entry) where
     numbered_so : IfSome entry (λ (f : Facts). f.number ≡ number)
     numbered_so = numbered_new now ready at n at_is number n_is u.has.parsed entry (enters u.has.parsed ready_head)
-
-    -- the entry stands behind all others
-    pub entry_behind : IfSome entry (λ (e : Facts). (other : Facts) → Contains was.index other → other.number < e.number)
-    entry_behind = behind_new was.index number u.is.counted.below entry numbered_so
 
     -- ---- the index with it is that of the book
 

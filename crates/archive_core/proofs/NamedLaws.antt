@@ -43,11 +43,19 @@ pub numbered_new : {D : Type 0} (now : Volumes D) (ready : Ready) (at : RecordAt
 numbered_new now ready at n at_is count n_is h None enters = tt
 numbered_new now ready at n at_is count n_is h (Some e) enters = enters.number ∙ ap (λ (a : RecordAt). a.number) at_is ∙ n_is
 
--- so it stands behind all others
-pub behind_new : (index : List Facts) (count : ℕ) → ((e : Facts) → Contains index e → e.number < count) → (entry : Option Facts)
-    → IfSome entry (λ (e : Facts). e.number ≡ count) → IfSome entry (λ (e : Facts). (other : Facts) → Contains index other → other.number < e.number)
-behind_new index count below None is = tt
-behind_new index count below (Some e) is = λ other has. omega (arith, below other has, is)
+-- it stands behind all others, where its number does
+pub behind_at : (stored : Stored) (h : ResponseHead) (at : RecordAt) (index : List Facts) (entry : Option Facts) → EntersAs stored h at entry
+    → ((other : Facts) → Contains index other → other.number < at.number)
+    → IfSome entry (λ (e : Facts). (other : Facts) → Contains index other → other.number < e.number)
+behind_at stored h at index None enters below = tt
+behind_at stored h at index (Some e) enters below = λ other has. omega (arith, below other has, enters.number)
+
+-- and that is behind those of all captures
+pub before_at : {D : Type 0} (now : Volumes D) (ready : Ready) (at : RecordAt) (n count : ℕ) → at ≡ record_in now ready n → n ≡ count → (index : List Facts)
+    → ((e : Facts) → Contains index e → e.number < count) → (other : Facts) → Contains index other → other.number < at.number
+before_at now ready at n count at_is n_is index below other has =
+    let number : at.number ≡ n = ap (λ (a : RecordAt). a.number) at_is in
+    omega (arith, below other has, number, n_is)
 
 named_with : (spots : List Spot) (spot : Spot) (index : List Facts) (entry : Option Facts) → AreNamed spots index
     → ((e : Facts) → Contains index e → e.number < length spots) → IfSome entry (λ (e : Facts). e.number ≡ length spots) → IfSome entry (IsNamedAs spot)

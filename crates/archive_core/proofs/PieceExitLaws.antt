@@ -1,6 +1,6 @@
 -- How the taking of a piece ends once it was read: without memory, refused by the disk, or with the capture.
 use Rattle.std.proofs.Common.{◌≡◌, ◌⊎◌, ℕ, ◌+◌, ◌-◌, ◌^◌, ◌<◌, Bool, false, IsFalse, IsTrue, List, [], ◌∷◌, ◌++◌, length, Option, Some, None, Result, Ok, Err, if◌then◌else◌, is_some, refl, sym, ap, subst, ◌∙◌, inl, inr, ⊎_elim, arith, length-append}
-use Rattle.std.specs.Prelude.{Contains, IfSome, IsErrAnd}
+use Rattle.std.specs.Prelude.{IfSome, IsErrAnd}
 use Rattle.sha1.specs.Sha1.{sha1}
 use Rattle.capture.proofs.PayloadLaws.{captures_have_one}
 use Rattle.capture.specs.Captures.{IsPayloadOf, captures, taken_back}
@@ -70,7 +70,7 @@ use Rattle.archive_core.proofs.FinishedLaws.{ready_grows, room_grows}
 use Rattle.archive_core.proofs.PieceReadyLaws.{HasRoomBy, can_commit_piece, good_group, good_place, good_target}
 use Rattle.archive_core.proofs.ReadyLaws.{with_count, with_end}
 use Rattle.archive_core.proofs.StoredLaws.{archive_left, archive_stored}
-use Rattle.archive_core.proofs.NamedLaws.{behind_new, named_after, named_same, numbered_new}
+use Rattle.archive_core.proofs.NamedLaws.{named_after, named_same, numbered_new}
 use Rattle.archive_core.specs.steps.Taking.{disk_failed, parts_as}
 
 -- ---- without memory
@@ -199,6 +199,15 @@ taking {D} d seen was old now text group first begins ready seen_is old_journal 
       ends = ends_now;
     }
 
+-- what is handed back is what was handed over
+pub handed_back : (text : List ℕ) (group : Group) (first : Option ℕ) (ready back : Ready) → back ≡ ready → IsReadyGroup text group first ready
+    → IsReadyGroup text group first back
+handed_back text group first ready back same is = subst (λ (r : Ready). IsReadyGroup text group first r) (sym same) is
+
+pub room_back : {D : Type 0} (old now : Volumes D) (begins : Option ℕ) (ready back : Ready) → back ≡ ready → MakesRoom old now begins ready.prepared
+    → MakesRoom old now begins back.prepared
+room_back old now begins ready back same is = subst (λ (r : Ready). MakesRoom old now begins r.prepared) (sym same) is
+
 none_is_some : (r : Reference) → None ≡ Some r → ⊥
 none_is_some r e = cc
 
@@ -271,10 +280,6 @@ module _ {D : Type 0} (d : Ghosts D) (basis : StoringBasis) (reading : Laws) (wa
       (enters : (h : grammar.ResponseHead) → IsResponseHeadText (stored_in ready.stored).head h → EntersAs (stored_in ready.stored) h at entry) where
     numbered_so : IfSome entry (λ (f : Facts). f.number ≡ number)
     numbered_so = numbered_new now ready at n at_is number n_is head_there.head entry (enters head_there.head ready_head)
-
-    -- the entry stands behind all others
-    pub entry_behind : IfSome entry (λ (e : Facts). (other : Facts) → Contains was.index other → other.number < e.number)
-    entry_behind = behind_new was.index number t.is.counted.below entry numbered_so
 
     -- ---- the index with it is that of the book
 

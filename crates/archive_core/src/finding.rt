@@ -1,5 +1,5 @@
 //! Captures by date.
-ghost use Rattle.std.specs.Prelude.{◌≡◌, ◌<◌, bytes_eq, nat_eq, IfOk};
+ghost use Rattle.std.specs.Prelude.{◌≡◌, ◌<◌, ◌++◌, ◌∷◌, [], bytes_eq, nat_eq, IfOk, OnOk};
 ghost use Rattle.std.specs.List.{starts_with};
 ghost use Rattle.cdxj_index.specs.Queries.{IsIndex, of_key, starting_with};
 ghost use Rattle.archive_shelf.specs.Queries.{ArePicked, IsFound};
@@ -53,7 +53,7 @@ fn copies_with_key(alloc: Global, index: &Index, key: &Key) -> Result<Vec<Entry>
 {
     let mut entries = Vec::new(alloc);
     for entry in index.range(key) {
-        entries.push(entry.copy()?)?;
+        push_copy(&mut entries, entry)?;
     }
     Ok(entries)
 }
@@ -73,7 +73,15 @@ fn copies_starting(alloc: Global, index: &Index, start: &Key) -> Result<Vec<Entr
 {
     let mut entries = Vec::new(alloc);
     for entry in index.starting(start) {
-        entries.push(entry.copy()?)?;
+        push_copy(&mut entries, entry)?;
     }
     Ok(entries)
+}
+
+/// Puts a copy of an entry behind the others.
+fn push_copy(entries: &mut Vec<Entry>, entry: &Entry) -> Result<(), Memory>
+    ensures { OnOk result (entries.new.items ≡ entries.old.items ++ entry.now ∷ []) }
+{
+    entries.push(entry.copy()?)?;
+    Ok(())
 }

@@ -1,6 +1,9 @@
 //! Opening an archive over a disk.
 ghost use Rattle.std.specs.Prelude.{◌≡◌, ◌≤◌, true, IfErr, IfOk, IfSome, IsTrue, count_by};
-ghost use Rattle.cdxj_index.specs.OfBook.{AreEntries};
+ghost use Rattle.std.specs.List.Sorted.{IsPermutation, IsStrictlySortedBy};
+ghost use Rattle.cdxj_index.specs.OfBook.{AreEntries, by_number};
+ghost use Rattle.cdxj_index.specs.Queries.{IsIndex};
+ghost use Rattle.revisit_table.specs.Table.{table_of};
 ghost use Rattle.warc_journal.specs.Journals.{disk_of};
 ghost use Rattle.warc_text.specs.Ids.{IsUuid};
 ghost use Rattle.archive_shelf.specs.declared.fault.ReopenFault.TheVariants.{Memory as IsMemory};
@@ -20,7 +23,9 @@ use archive_opening::{Opened, open_volumes};
 use archive_shelf::{Depth, ReopenFault};
 use archive_volumes::{Spot, Volumes};
 use capture::{Limits, Memory};
+use cdxj_index::{Entry, Index};
 use disk_model::Disk;
+use revisit_table::{Digests, LazyDigests};
 use shown::Shown;
 use std::alloc::Global;
 use uuid::Uuid;
@@ -87,13 +92,8 @@ pub(crate) fn archive_of<D: Disk>(
 {
     let Opened { journal, gathered } = opened;
     let (held, spots, digests, entries) = gathered.into_parts();
-    // before the index, since it takes memory meanwhile
-    let table = match digests.into_table(alloc) {
-        Ok(table) => table,
-        Err(Memory) => return Err((ReopenFault::Memory, journal.into_disk())),
-    };
-    let index = match index_of(alloc, entries) {
-        Ok(index) => index,
+    let (table, index) = match tables_of(alloc, digests, entries) {
+        Ok(tables) => tables,
         Err(Memory) => return Err((ReopenFault::Memory, journal.into_disk())),
     };
     let found = spots.len() as u32;
@@ -111,6 +111,23 @@ pub(crate) fn archive_of<D: Disk>(
         settled,
         told,
     })
+}
+
+/// The table of these digests, and the index of these entries.
+fn tables_of(
+    alloc: Global,
+    digests: LazyDigests,
+    entries: Vec<Entry>,
+) -> Result<(Digests, Index), Memory>
+    requires numbered { IsStrictlySortedBy by_number entries.items }
+    ensures table { IfOk result (λ tables. tables.0 ≡ table_of digests.kept) }
+    ensures index { IfOk result (λ tables. IsIndex tables.1) }
+    ensures same { IfOk result (λ tables. IsPermutation entries.items tables.1) }
+{
+    // before the index, since it takes memory meanwhile
+    let table = digests.into_table(alloc)?;
+    let index = index_of(alloc, entries)?;
+    Ok((table, index))
 }
 
 /// How many of the first volumes, up to so many, have a capture that a line alone told of.

@@ -10,12 +10,12 @@ ghost use Rattle.archive_core.specs.Stores.{Stores};
 
 use crate::Archive;
 use crate::comparing::{digest_of_wire, framing_of_taken};
-use crate::index::enter;
+use crate::index::enter_ready;
 use archive_shelf::{
     Looked, Receipt, StoreFault, entries_gain_what_is_stored, storing_keeps_soundness,
     texts_go_on_behind,
 };
-use archive_volumes::{entry_for, reserve_kept};
+use archive_volumes::reserve_kept;
 use capture::{Digest, Taken, growth_keeps_captures, wires_have_one_payload};
 use disk_model::Disk;
 use std::alloc::Global;
@@ -71,11 +71,10 @@ impl<D: Disk> Archive<D> {
             .volumes
             .make_ready(alloc, self.spots.as_slice(), taken, digest, same, limit)?;
         let at = self.volumes.record_at(&ready, number);
-        let entry = entry_for(alloc, &ready, taken.head.as_slice(), at)?;
-        enter(alloc, &mut self.index, entry)?;
+        let entered = enter_ready(alloc, &mut self.index, ready, taken.head.as_slice(), at)?;
         match self
             .volumes
-            .commit(&self.told, &mut self.spots, &mut self.table, ready)
+            .commit(&self.told, &mut self.spots, &mut self.table, entered)
         {
             Ok(()) => {
                 self.revisits += revisits_in(same);

@@ -1,5 +1,6 @@
 //! How an archive takes the piece of another one's capture.
-ghost use Rattle.std.specs.Prelude.{◌<◌, ◌≡◌, length};
+ghost use Rattle.std.specs.Prelude.{◌<◌, ◌≡◌, IfOk, OnOk, Some, length, vec_len};
+ghost use Rattle.std.specs.Vec.{vec_capacity};
 ghost use Rattle.capture.specs.Captures.{captures};
 ghost use Rattle.warc_journal.specs.Journals.{disk_of, last_len};
 ghost use Rattle.warc_scan.specs.Groups.{IsGroup};
@@ -13,15 +14,17 @@ ghost use Rattle.archive_core.specs.TakingPieces.{Puts, TakesPiece};
 ghost use Rattle.archive_core.specs.steps.Taking.{parts_as};
 
 use crate::Archive;
-use crate::index::enter;
+use crate::index::enter_ready;
 use crate::storing::{revisits_in, storing_has_a_basis};
 use archive_opening::reading_laws;
 use archive_pieces::{
     Found, PieceFault, end_of, make_piece_ready, original_of, passes_bounds, read_piece,
 };
 use archive_shelf::StoreFault;
-use archive_volumes::{entry_for, reserve_kept};
+use archive_volumes::{Spot, reserve_kept};
+use capture::{Bytes, Memory};
 use disk_model::Disk;
+use revisit_table::Digests;
 use std::alloc::Global;
 use warc_scan::Group;
 
@@ -43,6 +46,24 @@ fn fault_of(fault: StoreFault) -> PieceFault
         },
         StoreFault::Memory => PieceFault::Memory,
     }
+}
+
+/// Makes room for the capture of a group, and copies the head of its response.
+fn head_with_room(
+    alloc: Global,
+    spots: &mut Vec<Spot>,
+    table: &mut Digests,
+    group: &Group,
+) -> Result<Bytes, Memory>
+    ensures room { OnOk result (vec_len spots.new < vec_capacity spots.new) }
+    ensures reserved { OnOk result (table.new.reserved ≡ Some group.now.digest) }
+    ensures spots { spots.new.items ≡ spots.old.items }
+    ensures table { table.new.kept ≡ table.old.kept }
+    ensures head { IfOk result (λ head. head ≡ group.now.stored.head) }
+{
+    reserve_kept(alloc, spots, table, &group.digest)?;
+    let head = group.stored.head.copy()?;
+    Ok(head)
 }
 
 impl<D: Disk> Archive<D> {
@@ -125,15 +146,14 @@ impl<D: Disk> Archive<D> {
         storing_has_a_basis();
         reading_laws();
         let number = self.spots.len() as u32;
-        let head = group.stored.head.copy()?;
-        reserve_kept(alloc, &mut self.spots, &mut self.table, &group.digest)?;
+        let head = head_with_room(alloc, &mut self.spots, &mut self.table, &group)?;
         let ready = make_piece_ready(alloc, &mut self.volumes, text, begins, group, first)?;
         let at = self.volumes.record_at(&ready, number);
-        let entry = entry_for(alloc, &ready, head.as_slice(), at)?;
-        enter(alloc, &mut self.index, entry)?;
+        let entered = enter_ready(alloc, &mut self.index, ready, head.as_slice(), at)?;
+        drop(head);
         match self
             .volumes
-            .commit(&self.told, &mut self.spots, &mut self.table, ready)
+            .commit(&self.told, &mut self.spots, &mut self.table, entered)
         {
             Ok(()) => {
                 self.revisits += revisits_in(first);

@@ -16,14 +16,14 @@ use Rattle.archive_core.proofs.reopen.archive_of.Goals as goal
 book_is : (g : Over) (c : goal.After-over g) → book_of c.over.result.held ≡ book_of c.args.opened.gathered.held
 book_is g c = ap (λ (v : Volumes _). book_of v.held) c.over.ensures.value ∙ ap book_of c.into_parts-held.ensures.held
 
-kept_is : (g : Over) (c : goal.After-over g) → c.in-Ok.table.kept ≡ c.args.opened.gathered.table.kept
-kept_is g c = ap (λ (t : Table). t.kept) c.in-Ok.ensures ∙ ap (λ (t : LazyTable). t.kept) c.into_parts-held.ensures.table
+kept_is : (g : Over) (c : goal.After-over g) → c.in-Ok.tables.0.kept ≡ c.args.opened.gathered.table.kept
+kept_is g c = ap (λ (t : Table). t.kept) c.in-Ok.ensures.table ∙ ap (λ (t : LazyTable). t.kept) c.into_parts-held.ensures.table
 
 parts : (g : Over) (c : goal.After-over g) → AreParts g.D.Disk c.args.told.value c.over.result.journal (book_of c.over.result.held) c.into_parts-held.result.1.items
-    c.in-Ok.table.kept c.args.opened.gathered.lengths.items c.into_parts-held.result.3.items
+    c.in-Ok.tables.0.kept c.args.opened.gathered.lengths.items c.into_parts-held.result.3.items
 parts g c =
     parts_of g.D.Disk c.args.told.value c.args.opened c.requires.usable c.requires.numbered c.requires.entries c.over.result.journal (book_of c.over.result.held) c.into_parts-held.result.1.items
-    c.in-Ok.table.kept c.into_parts-held.result.3.items (ap (λ (v : Volumes _). v.journal) c.over.ensures.value) (book_is g c)
+    c.in-Ok.tables.0.kept c.into_parts-held.result.3.items (ap (λ (v : Volumes _). v.journal) c.over.ensures.value) (book_is g c)
     c.into_parts-held.ensures.spots (kept_is g c) c.into_parts-held.ensures.entries
 
 pub over-requires-clause-tells : goal.over-requires-clause-tells
@@ -63,8 +63,8 @@ first_is g c so =
 
 pub invariant_of-result : goal.invariant_of-result
 invariant_of-result g c =
-    made_archive g.D.Disk c.args.told.value c.over.result.journal (book_of c.over.result.held) c.into_parts-held.result.1.items c.in-Ok.table
-    c.args.opened.gathered.lengths.items c.into_parts-held.result.3.items c.in-Ok-index_of.index (parts g c) c.in-Ok-index_of.ensures.same c.in-Ok-index_of.ensures.index
+    made_archive g.D.Disk c.args.told.value c.over.result.journal (book_of c.over.result.held) c.into_parts-held.result.1.items c.in-Ok.tables.0
+    c.args.opened.gathered.lengths.items c.into_parts-held.result.3.items c.in-Ok.tables.1 (parts g c) c.in-Ok.ensures.same c.in-Ok.ensures.index
     c.args.limits c.len-found.result c.revisits_among-revisits.result c.lined_volumes-settled.result
     c.over.ensures.holds c.over.ensures.measured c.requires.limits (found_is g c)
     (c.revisits_among-revisits.ensures ∙ ap (count_by same_spot) c.as_slice.ensures.value)
@@ -75,9 +75,9 @@ returns-clause-made g c =
     let book : book_of c.over.result.held ≡ book_of c.args.opened.gathered.held =
     ap (λ (v : Volumes _). book_of v.held) c.over.ensures.value ∙ ap book_of c.into_parts-held.ensures.held in
     let are : AreParts g.D.Disk c.args.told.value c.over.result.journal (book_of c.over.result.held) c.into_parts-held.result.1.items
-    c.in-Ok.table.kept c.args.opened.gathered.lengths.items c.into_parts-held.result.3.items =
+    c.in-Ok.tables.0.kept c.args.opened.gathered.lengths.items c.into_parts-held.result.3.items =
     parts_of g.D.Disk c.args.told.value c.args.opened c.requires.usable c.requires.numbered c.requires.entries c.over.result.journal (book_of c.over.result.held) c.into_parts-held.result.1.items
-    c.in-Ok.table.kept c.into_parts-held.result.3.items (ap (λ (v : Volumes _). v.journal) c.over.ensures.value) book
+    c.in-Ok.tables.0.kept c.into_parts-held.result.3.items (ap (λ (v : Volumes _). v.journal) c.over.ensures.value) book
     c.into_parts-held.ensures.spots (kept_is g c) c.into_parts-held.ensures.entries in
     let count : c.len-found.result ≡ length c.into_parts-held.result.1.items = search rules in
     record {
@@ -85,12 +85,12 @@ returns-clause-made g c =
       book_is = book;
       spots_are = c.into_parts-held.ensures.spots;
       shown = λ entries.
-          shown_sorted g.D.Disk c.args.told.value c.over.result.journal (book_of c.over.result.held) c.into_parts-held.result.1.items c.in-Ok.table
-          c.args.opened.gathered.lengths.items c.into_parts-held.result.3.items c.in-Ok-index_of.index are c.in-Ok-index_of.ensures.same c.in-Ok-index_of.ensures.index
+          shown_sorted g.D.Disk c.args.told.value c.over.result.journal (book_of c.over.result.held) c.into_parts-held.result.1.items c.in-Ok.tables.0
+          c.args.opened.gathered.lengths.items c.into_parts-held.result.3.items c.in-Ok.tables.1 are c.in-Ok.ensures.same c.in-Ok.ensures.index
           (entries_as (book_of c.args.opened.gathered.held) (book_of c.over.result.held) c.args.opened.gathered.entries.items c.into_parts-held.result.3.items
           book c.into_parts-held.ensures.entries entries);
-      named = named_by g.D.Disk c.args.told.value c.over.result.journal (book_of c.over.result.held) c.into_parts-held.result.1.items c.in-Ok.table
-          c.args.opened.gathered.lengths.items c.into_parts-held.result.3.items c.in-Ok-index_of.index are c.in-Ok-index_of.ensures.same c.in-Ok-index_of.ensures.index;
+      named = named_by g.D.Disk c.args.told.value c.over.result.journal (book_of c.over.result.held) c.into_parts-held.result.1.items c.in-Ok.tables.0
+          c.args.opened.gathered.lengths.items c.into_parts-held.result.3.items c.in-Ok.tables.1 are c.in-Ok.ensures.same c.in-Ok.ensures.index;
       found = count ∙ are.0.count;
       limits_are = refl;
       told_is = refl;

@@ -6,10 +6,9 @@ use Rattle.capture.specs.declared.book.Book.{Book}
 use Rattle.capture.specs.declared.captured.Stored.{Stored}
 use Rattle.cdxj_index.specs.Facts.{Facts}
 use Rattle.cdxj_index.specs.Order.{without}
-use Rattle.httparse.specs.Grammar.{ResponseHead}
 use Rattle.time_text.specs.Texts.{InRange}
 use Rattle.warc_journal.specs.Journals.{texts}
-use Rattle.archive_volumes.specs.Entries.{EntersAs, entered}
+use Rattle.archive_volumes.specs.Entries.{entered}
 use Rattle.archive_volumes.specs.Held.{book_of, stored_in}
 use Rattle.archive_volumes.specs.Spots.{AreHeldWhole, ArePlaced, AreSpotsOf, AreWithin, whole_from}
 use Rattle.archive_volumes.specs.declared.spot.Spot.{Spot}
@@ -19,6 +18,7 @@ use Rattle.archive_core.specs.TakingPieces.{Puts}
 use Rattle.archive_core.specs.View.{holdings_of}
 use Rattle.archive_pieces.specs.declared.fault.PieceFault.TheVariants as pieces
 use Rattle.archive_core.proofs.ExitLaws as exits
+use Rattle.archive_core.proofs.NamedLaws.{before_at}
 use Rattle.archive_core.proofs.PieceExitLaws as laws
 use Rattle.archive_core.proofs.archive.Archive.put_piece.Goals as goal
 use Rattle.archive_core.specs.steps.Taking.{parts_as}
@@ -56,8 +56,8 @@ record_at-at-requires-clause-room g c =
     c.make_piece_ready.ensures.book c.in_ok-ready.ensures.ready c.in_ok-ready.ensures.room in
     t.room_is.room
 
-pub entry_for-requires-clause-date : goal.entry_for-requires-clause-date
-entry_for-requires-clause-date g c =
+pub enter_ready-requires-clause-date : goal.enter_ready-requires-clause-date
+enter_ready-requires-clause-date g c =
     let was : Holdings _ = holdings_of c.self.inside in
     let now = c.make_piece_ready.new.volumes in
     let ready = c.in_ok-ready.ready in
@@ -70,8 +70,8 @@ entry_for-requires-clause-date g c =
     c.make_piece_ready.ensures.book c.in_ok-ready.ensures.ready c.in_ok-ready.ensures.room in
     subst (λ (s : Stored). InRange s.date) (sym t.ready_is.stored) (subst InRange (sym (laws.date_same group.stored first)) t.of.date)
 
-pub entry_for-requires-clause-kept : goal.entry_for-requires-clause-kept
-entry_for-requires-clause-kept g c =
+pub enter_ready-requires-clause-kept : goal.enter_ready-requires-clause-kept
+enter_ready-requires-clause-kept g c =
     let was : Holdings _ = holdings_of c.self.inside in
     let now = c.make_piece_ready.new.volumes in
     let ready = c.in_ok-ready.ready in
@@ -84,8 +84,8 @@ entry_for-requires-clause-kept g c =
     c.make_piece_ready.ensures.book c.in_ok-ready.ensures.ready c.in_ok-ready.ensures.room in
     t.ready_is.kept
 
-pub entry_for-requires-clause-is : goal.entry_for-requires-clause-is
-entry_for-requires-clause-is g c =
+pub enter_ready-requires-clause-is : goal.enter_ready-requires-clause-is
+enter_ready-requires-clause-is g c =
     let was : Holdings _ = holdings_of c.self.inside in
     let now = c.make_piece_ready.new.volumes in
     let ready = c.in_ok-ready.ready in
@@ -96,10 +96,10 @@ entry_for-requires-clause-is g c =
     let t = laws.taking g.D.Disk c.args.self.now was c.self.inside.volumes now text group first begins ready c.self.view_is refl refl c.self.invariant
     c.requires.not_full c.requires.group c.requires.refers c.requires.holds c.requires.bounds c.make_piece_ready.ensures.journal
     c.make_piece_ready.ensures.book c.in_ok-ready.ensures.ready c.in_ok-ready.ensures.room in
-    c.as_slice.ensures ∙ c.in_ok-head.ensures ∙ sym (laws.head_same group.stored first) ∙ sym (ap (λ (s : Stored). s.head) t.ready_is.stored)
+    c.as_slice.ensures ∙ c.in_ok-head.ensures.head ∙ sym (laws.head_same group.stored first) ∙ sym (ap (λ (s : Stored). s.head) t.ready_is.stored)
 
-pub entry_for-requires-clause-head : goal.entry_for-requires-clause-head
-entry_for-requires-clause-head g c =
+pub enter_ready-requires-clause-head : goal.enter_ready-requires-clause-head
+enter_ready-requires-clause-head g c =
     let was : Holdings _ = holdings_of c.self.inside in
     let now = c.make_piece_ready.new.volumes in
     let ready = c.in_ok-ready.ready in
@@ -111,48 +111,34 @@ entry_for-requires-clause-head g c =
     c.requires.not_full c.requires.group c.requires.refers c.requires.holds c.requires.bounds c.make_piece_ready.ensures.journal
     c.make_piece_ready.ensures.book c.in_ok-ready.ensures.ready c.in_ok-ready.ensures.room in
     let is : c.as_slice.result.now ≡ (stored_in ready.stored).head =
-    c.as_slice.ensures ∙ c.in_ok-head.ensures ∙ sym (laws.head_same group.stored first) ∙ sym (ap (λ (s : Stored). s.head) t.ready_is.stored) in
+    c.as_slice.ensures ∙ c.in_ok-head.ensures.head ∙ sym (laws.head_same group.stored first) ∙ sym (ap (λ (s : Stored). s.head) t.ready_is.stored) in
     let there = laws.head_known g.D.Disk c.storing_has_a_basis.ensures c.reading_laws.ensures was now text group first begins ready t in
     (there.head, subst (λ (h : List ℕ). IsResponseHeadText h there.head) (sym is) there.is)
 
-pub enter-requires-clause-indexed : goal.enter-requires-clause-indexed
-enter-requires-clause-indexed g c =
+pub enter_ready-requires-clause-indexed : goal.enter_ready-requires-clause-indexed
+enter_ready-requires-clause-indexed g c =
     c.self.invariant.indexed
 
-pub enter-requires-clause-behind : goal.enter-requires-clause-behind
-enter-requires-clause-behind g c =
+pub enter_ready-requires-clause-behind : goal.enter_ready-requires-clause-behind
+enter_ready-requires-clause-behind g c =
     let was : Holdings _ = holdings_of c.self.inside in
-    let now = c.make_piece_ready.new.volumes in
-    let ready = c.in_ok-ready.ready in
-    let text = c.args.text.now in
-    let group = c.args.group in
-    let first = c.args.first in
-    let begins = c.args.begins in
-    let t = laws.taking g.D.Disk c.args.self.now was c.self.inside.volumes now text group first begins ready c.self.view_is refl refl c.self.invariant
-    c.requires.not_full c.requires.group c.requires.refers c.requires.holds c.requires.bounds c.make_piece_ready.ensures.journal
-    c.make_piece_ready.ensures.book c.in_ok-ready.ensures.ready c.in_ok-ready.ensures.room in
-    let is : c.as_slice.result.now ≡ (stored_in ready.stored).head =
-    c.as_slice.ensures ∙ c.in_ok-head.ensures ∙ sym (laws.head_same group.stored first) ∙ sym (ap (λ (s : Stored). s.head) t.ready_is.stored) in
-    let enters : (h : ResponseHead) → IsResponseHeadText (stored_in ready.stored).head h → EntersAs (stored_in ready.stored) h c.record_at-at.result c.in_ok-entry.entry =
-    λ h reads. c.in_ok-entry.ensures h (subst (λ (t : List ℕ). IsResponseHeadText t h) (sym is) reads) in
     let many : c.len-number.result ≡ length c.self.inside.spots.items = search rules in
-    let count : c.len-number.result ≡ length (captures was.book) = many ∙ c.self.invariant.spots.count in
-    let number : c.len-number.result ≡ length (captures (book_of now.held)) =
-    count ∙ sym (ap (λ (b : Book). length (captures b)) c.make_piece_ready.ensures.book) in
-    laws.entry_behind g.D.Disk c.storing_has_a_basis.ensures c.reading_laws.ensures was now text group first begins ready t c.record_at-at.result c.len-number.result c.record_at-at.ensures number c.in_ok-entry.entry enters
+    before_at c.make_piece_ready.new.volumes c.in_ok-ready.ready c.record_at-at.result c.len-number.result (length (captures was.book)) c.record_at-at.ensures
+    (many ∙ c.self.invariant.spots.count) was.index c.self.invariant.counted.below
 
 pub commit-requires-clause-ready : goal.commit-requires-clause-ready
 commit-requires-clause-ready g c =
     let was : Holdings _ = holdings_of c.self.inside in
     let now = c.make_piece_ready.new.volumes in
-    let ready = c.in_ok-ready.ready in
+    let ready = c.in_ok-entered.entered in
     let text = c.args.text.now in
     let group = c.args.group in
     let first = c.args.first in
     let begins = c.args.begins in
     let t = laws.taking g.D.Disk c.args.self.now was c.self.inside.volumes now text group first begins ready c.self.view_is refl refl c.self.invariant
     c.requires.not_full c.requires.group c.requires.refers c.requires.holds c.requires.bounds c.make_piece_ready.ensures.journal
-    c.make_piece_ready.ensures.book c.in_ok-ready.ensures.ready c.in_ok-ready.ensures.room in
+    c.make_piece_ready.ensures.book (laws.handed_back text group first c.in_ok-ready.ready ready c.in_ok-entered.ensures.same c.in_ok-ready.ensures.ready)
+    (laws.room_back c.self.inside.volumes now begins c.in_ok-ready.ready ready c.in_ok-entered.ensures.same c.in_ok-ready.ensures.room) in
     laws.commit_ready g.D.Disk c.storing_has_a_basis.ensures c.reading_laws.ensures was now text group first begins ready t
 
 pub commit-requires-clause-holds : goal.commit-requires-clause-holds
@@ -195,7 +181,7 @@ commit-requires-clause-spots g c =
     let t = laws.taking g.D.Disk c.args.self.now was c.self.inside.volumes now text group first begins ready c.self.view_is refl refl c.self.invariant
     c.requires.not_full c.requires.group c.requires.refers c.requires.holds c.requires.bounds c.make_piece_ready.ensures.journal
     c.make_piece_ready.ensures.book c.in_ok-ready.ensures.ready c.in_ok-ready.ensures.room in
-    subst (λ (l : List Spot). AreSpotsOf (book_of now.held) l) (sym c.reserve_kept.ensures.spots) t.is.spots
+    subst (λ (l : List Spot). AreSpotsOf (book_of now.held) l) (sym c.head_with_room.ensures.spots) t.is.spots
 
 pub commit-requires-clause-within : goal.commit-requires-clause-within
 commit-requires-clause-within g c told =
@@ -209,7 +195,7 @@ commit-requires-clause-within g c told =
     let t = laws.taking g.D.Disk c.args.self.now was c.self.inside.volumes now text group first begins ready c.self.view_is refl refl c.self.invariant
     c.requires.not_full c.requires.group c.requires.refers c.requires.holds c.requires.bounds c.make_piece_ready.ensures.journal
     c.make_piece_ready.ensures.book c.in_ok-ready.ensures.ready c.in_ok-ready.ensures.room in
-    subst (AreWithin (texts g.D.Disk now.journal)) (sym c.reserve_kept.ensures.spots) (t.is.within told)
+    subst (AreWithin (texts g.D.Disk now.journal)) (sym c.head_with_room.ensures.spots) (t.is.within told)
 
 pub commit-requires-clause-placed : goal.commit-requires-clause-placed
 commit-requires-clause-placed g c told =
@@ -223,63 +209,64 @@ commit-requires-clause-placed g c told =
     let t = laws.taking g.D.Disk c.args.self.now was c.self.inside.volumes now text group first begins ready c.self.view_is refl refl c.self.invariant
     c.requires.not_full c.requires.group c.requires.refers c.requires.holds c.requires.bounds c.make_piece_ready.ensures.journal
     c.make_piece_ready.ensures.book c.in_ok-ready.ensures.ready c.in_ok-ready.ensures.room in
-    subst (λ (l : List Spot). ArePlaced (texts g.D.Disk now.journal) (book_of now.held) l) (sym c.reserve_kept.ensures.spots) (t.is.placed told)
+    subst (λ (l : List Spot). ArePlaced (texts g.D.Disk now.journal) (book_of now.held) l) (sym c.head_with_room.ensures.spots) (t.is.placed told)
 
 pub commit-requires-clause-table : goal.commit-requires-clause-table
 commit-requires-clause-table g c =
-    c.reserve_kept.ensures.table ∙ c.self.invariant.table ∙ sym (ap (λ (l : List Spot). whole_from 0 l) c.reserve_kept.ensures.spots)
+    c.head_with_room.ensures.table ∙ c.self.invariant.table ∙ sym (ap (λ (l : List Spot). whole_from 0 l) c.head_with_room.ensures.spots)
 
 pub commit-requires-clause-space : goal.commit-requires-clause-space
 commit-requires-clause-space g c =
-    c.in_ok-reserve_kept.ensures.room
+    c.in_ok-head.ensures.room
 
 pub commit-requires-clause-reserved : goal.commit-requires-clause-reserved
 commit-requires-clause-reserved g c =
     let was : Holdings _ = holdings_of c.self.inside in
     let now = c.make_piece_ready.new.volumes in
-    let ready = c.in_ok-ready.ready in
+    let ready = c.in_ok-entered.entered in
     let text = c.args.text.now in
     let group = c.args.group in
     let first = c.args.first in
     let begins = c.args.begins in
     let t = laws.taking g.D.Disk c.args.self.now was c.self.inside.volumes now text group first begins ready c.self.view_is refl refl c.self.invariant
     c.requires.not_full c.requires.group c.requires.refers c.requires.holds c.requires.bounds c.make_piece_ready.ensures.journal
-    c.make_piece_ready.ensures.book c.in_ok-ready.ensures.ready c.in_ok-ready.ensures.room in
-    c.in_ok-reserve_kept.ensures.reserved ∙ ap (λ (digest : List ℕ). Some digest) (sym t.ready_is.digest)
+    c.make_piece_ready.ensures.book (laws.handed_back text group first c.in_ok-ready.ready ready c.in_ok-entered.ensures.same c.in_ok-ready.ensures.ready)
+    (laws.room_back c.self.inside.volumes now begins c.in_ok-ready.ready ready c.in_ok-entered.ensures.same c.in_ok-ready.ensures.room) in
+    c.in_ok-head.ensures.reserved ∙ ap (λ (digest : List ℕ). Some digest) (sym t.ready_is.digest)
 
 pub commit-requires-clause-few : goal.commit-requires-clause-few
 commit-requires-clause-few g c =
-    omega (arith, ap (λ (l : List Spot). length l) c.reserve_kept.ensures.spots, c.self.invariant.spots.count, c.self.invariant.counted.few)
+    omega (arith, ap (λ (l : List Spot). length l) c.head_with_room.ensures.spots, c.self.invariant.spots.count, c.self.invariant.counted.few)
 
 pub invariant_of-self : goal.invariant_of-self
 invariant_of-self g c =
     let was : Holdings _ = holdings_of c.self.inside in
-    exits.memory_archive g.D.Disk was (record was { journal = c.self.inside.volumes.journal; book = book_of c.self.inside.volumes.held; table = c.reserve_kept.new.table; index = c.self.inside.index; spots = c.reserve_kept.new.spots.items }) refl refl refl refl refl refl refl
-    c.self.invariant c.reserve_kept.ensures.spots c.reserve_kept.ensures.table refl
+    exits.memory_archive g.D.Disk was (record was { journal = c.self.inside.volumes.journal; book = book_of c.self.inside.volumes.held; table = c.head_with_room.new.table; index = c.self.inside.index; spots = c.head_with_room.new.spots.items }) refl refl refl refl refl refl refl
+    c.self.invariant c.head_with_room.ensures.spots c.head_with_room.ensures.table refl
 
-pub returns-in_err-reserve_kept-clause-puts : goal.returns-in_err-reserve_kept-clause-puts
-returns-in_err-reserve_kept-clause-puts g c =
+pub returns-in_err-head-clause-puts : goal.returns-in_err-head-clause-puts
+returns-in_err-head-clause-puts g c =
     let was : Holdings _ = holdings_of c.self.inside in
-    let is : Holdings _ = record was { journal = c.self.inside.volumes.journal; book = book_of c.self.inside.volumes.held; table = c.reserve_kept.new.table; index = c.self.inside.index; spots = c.reserve_kept.new.spots.items } in
-    subst (λ (held : Holdings _). Puts g.D.Disk held is (parts_as c.args.text.now c.args.group c.args.first c.args.begins) c.from_residual-in_err-reserve_kept.result) c.self.view_is
+    let is : Holdings _ = record was { journal = c.self.inside.volumes.journal; book = book_of c.self.inside.volumes.held; table = c.head_with_room.new.table; index = c.self.inside.index; spots = c.head_with_room.new.spots.items } in
+    subst (λ (held : Holdings _). Puts g.D.Disk held is (parts_as c.args.text.now c.args.group c.args.first c.args.begins) c.from_residual.result) c.self.view_is
     (laws.memory_exit g.D.Disk was is c.args.text.now c.args.group c.args.first c.args.begins
-    (laws.untouched g.D.Disk was is refl refl refl refl refl refl) c.from_residual-in_err-reserve_kept.result c.from_residual-in_err-reserve_kept.ensures.1)
+    (laws.untouched g.D.Disk was is refl refl refl refl refl refl) c.from_residual.result c.from_residual.ensures.1)
 
-pub returns-in_err-reserve_kept-clause-faults : goal.returns-in_err-reserve_kept-clause-faults
-returns-in_err-reserve_kept-clause-faults g c =
+pub returns-in_err-head-clause-faults : goal.returns-in_err-head-clause-faults
+returns-in_err-head-clause-faults g c =
     laws.memory_faults g.D.Disk c.args.self.now.journal (c.self.inside.volumes.journal)
-    (refl ∙ ap (λ (held : Holdings _). held.journal) c.self.view_is) c.from_residual-in_err-reserve_kept.result c.from_residual-in_err-reserve_kept.ensures.1
+    (refl ∙ ap (λ (held : Holdings _). held.journal) c.self.view_is) c.from_residual.result c.from_residual.ensures.1
 
 pub invariant_of-self-in_err-ready : goal.invariant_of-self-in_err-ready
 invariant_of-self-in_err-ready g c =
     let was : Holdings _ = holdings_of c.self.inside in
-    exits.memory_archive g.D.Disk was (record was { journal = c.make_piece_ready.new.volumes.journal; book = book_of c.make_piece_ready.new.volumes.held; table = c.reserve_kept.new.table; index = c.self.inside.index; spots = c.reserve_kept.new.spots.items }) c.make_piece_ready.ensures.journal c.make_piece_ready.ensures.book refl refl refl refl refl
-    c.self.invariant c.reserve_kept.ensures.spots c.reserve_kept.ensures.table refl
+    exits.memory_archive g.D.Disk was (record was { journal = c.make_piece_ready.new.volumes.journal; book = book_of c.make_piece_ready.new.volumes.held; table = c.head_with_room.new.table; index = c.self.inside.index; spots = c.head_with_room.new.spots.items }) c.make_piece_ready.ensures.journal c.make_piece_ready.ensures.book refl refl refl refl refl
+    c.self.invariant c.head_with_room.ensures.spots c.head_with_room.ensures.table refl
 
 pub returns-in_err-ready-clause-puts : goal.returns-in_err-ready-clause-puts
 returns-in_err-ready-clause-puts g c =
     let was : Holdings _ = holdings_of c.self.inside in
-    let is : Holdings _ = record was { journal = c.make_piece_ready.new.volumes.journal; book = book_of c.make_piece_ready.new.volumes.held; table = c.reserve_kept.new.table; index = c.self.inside.index; spots = c.reserve_kept.new.spots.items } in
+    let is : Holdings _ = record was { journal = c.make_piece_ready.new.volumes.journal; book = book_of c.make_piece_ready.new.volumes.held; table = c.head_with_room.new.table; index = c.self.inside.index; spots = c.head_with_room.new.spots.items } in
     subst (λ (held : Holdings _). Puts g.D.Disk held is (parts_as c.args.text.now c.args.group c.args.first c.args.begins) c.from_residual-in_err-ready.result) c.self.view_is
     (laws.memory_exit g.D.Disk was is c.args.text.now c.args.group c.args.first c.args.begins
     (laws.untouched g.D.Disk was is c.make_piece_ready.ensures.journal c.make_piece_ready.ensures.book refl refl refl refl) c.from_residual-in_err-ready.result c.from_residual-in_err-ready.ensures.1)
@@ -289,97 +276,76 @@ returns-in_err-ready-clause-faults g c =
     laws.memory_faults g.D.Disk c.args.self.now.journal (c.make_piece_ready.new.volumes.journal)
     (c.make_piece_ready.ensures.journal ∙ ap (λ (held : Holdings _). held.journal) c.self.view_is) c.from_residual-in_err-ready.result c.from_residual-in_err-ready.ensures.1
 
-pub invariant_of-self-in_err-entry : goal.invariant_of-self-in_err-entry
-invariant_of-self-in_err-entry g c =
+pub invariant_of-self-in_err-entered : goal.invariant_of-self-in_err-entered
+invariant_of-self-in_err-entered g c =
     let was : Holdings _ = holdings_of c.self.inside in
-    exits.memory_archive g.D.Disk was (record was { journal = c.make_piece_ready.new.volumes.journal; book = book_of c.make_piece_ready.new.volumes.held; table = c.reserve_kept.new.table; index = c.self.inside.index; spots = c.reserve_kept.new.spots.items }) c.make_piece_ready.ensures.journal c.make_piece_ready.ensures.book refl refl refl refl refl
-    c.self.invariant c.reserve_kept.ensures.spots c.reserve_kept.ensures.table refl
+    exits.memory_archive g.D.Disk was (record was { journal = c.make_piece_ready.new.volumes.journal; book = book_of c.make_piece_ready.new.volumes.held; table = c.head_with_room.new.table; index = c.enter_ready.new.index; spots = c.head_with_room.new.spots.items }) c.make_piece_ready.ensures.journal c.make_piece_ready.ensures.book c.in_err-entered.ensures.refused refl refl refl refl
+    c.self.invariant c.head_with_room.ensures.spots c.head_with_room.ensures.table refl
 
-pub returns-in_err-entry-clause-puts : goal.returns-in_err-entry-clause-puts
-returns-in_err-entry-clause-puts g c =
+pub returns-in_err-entered-clause-puts : goal.returns-in_err-entered-clause-puts
+returns-in_err-entered-clause-puts g c =
     let was : Holdings _ = holdings_of c.self.inside in
-    let is : Holdings _ = record was { journal = c.make_piece_ready.new.volumes.journal; book = book_of c.make_piece_ready.new.volumes.held; table = c.reserve_kept.new.table; index = c.self.inside.index; spots = c.reserve_kept.new.spots.items } in
-    subst (λ (held : Holdings _). Puts g.D.Disk held is (parts_as c.args.text.now c.args.group c.args.first c.args.begins) c.from_residual-in_err-entry.result) c.self.view_is
+    let is : Holdings _ = record was { journal = c.make_piece_ready.new.volumes.journal; book = book_of c.make_piece_ready.new.volumes.held; table = c.head_with_room.new.table; index = c.enter_ready.new.index; spots = c.head_with_room.new.spots.items } in
+    subst (λ (held : Holdings _). Puts g.D.Disk held is (parts_as c.args.text.now c.args.group c.args.first c.args.begins) c.from_residual-in_err-entered.result) c.self.view_is
     (laws.memory_exit g.D.Disk was is c.args.text.now c.args.group c.args.first c.args.begins
-    (laws.untouched g.D.Disk was is c.make_piece_ready.ensures.journal c.make_piece_ready.ensures.book refl refl refl refl) c.from_residual-in_err-entry.result c.from_residual-in_err-entry.ensures.1)
+    (laws.untouched g.D.Disk was is c.make_piece_ready.ensures.journal c.make_piece_ready.ensures.book c.in_err-entered.ensures.refused refl refl refl) c.from_residual-in_err-entered.result c.from_residual-in_err-entered.ensures.1)
 
-pub returns-in_err-entry-clause-faults : goal.returns-in_err-entry-clause-faults
-returns-in_err-entry-clause-faults g c =
+pub returns-in_err-entered-clause-faults : goal.returns-in_err-entered-clause-faults
+returns-in_err-entered-clause-faults g c =
     laws.memory_faults g.D.Disk c.args.self.now.journal (c.make_piece_ready.new.volumes.journal)
-    (c.make_piece_ready.ensures.journal ∙ ap (λ (held : Holdings _). held.journal) c.self.view_is) c.from_residual-in_err-entry.result c.from_residual-in_err-entry.ensures.1
-
-pub invariant_of-self-in_err-enter : goal.invariant_of-self-in_err-enter
-invariant_of-self-in_err-enter g c =
-    let was : Holdings _ = holdings_of c.self.inside in
-    exits.memory_archive g.D.Disk was (record was { journal = c.make_piece_ready.new.volumes.journal; book = book_of c.make_piece_ready.new.volumes.held; table = c.reserve_kept.new.table; index = c.enter.new.index; spots = c.reserve_kept.new.spots.items }) c.make_piece_ready.ensures.journal c.make_piece_ready.ensures.book c.in_err-enter.ensures.refused refl refl refl refl
-    c.self.invariant c.reserve_kept.ensures.spots c.reserve_kept.ensures.table refl
-
-pub returns-in_err-enter-clause-puts : goal.returns-in_err-enter-clause-puts
-returns-in_err-enter-clause-puts g c =
-    let was : Holdings _ = holdings_of c.self.inside in
-    let is : Holdings _ = record was { journal = c.make_piece_ready.new.volumes.journal; book = book_of c.make_piece_ready.new.volumes.held; table = c.reserve_kept.new.table; index = c.enter.new.index; spots = c.reserve_kept.new.spots.items } in
-    subst (λ (held : Holdings _). Puts g.D.Disk held is (parts_as c.args.text.now c.args.group c.args.first c.args.begins) c.from_residual-in_err-enter.result) c.self.view_is
-    (laws.memory_exit g.D.Disk was is c.args.text.now c.args.group c.args.first c.args.begins
-    (laws.untouched g.D.Disk was is c.make_piece_ready.ensures.journal c.make_piece_ready.ensures.book c.in_err-enter.ensures.refused refl refl refl) c.from_residual-in_err-enter.result c.from_residual-in_err-enter.ensures.1)
-
-pub returns-in_err-enter-clause-faults : goal.returns-in_err-enter-clause-faults
-returns-in_err-enter-clause-faults g c =
-    laws.memory_faults g.D.Disk c.args.self.now.journal (c.make_piece_ready.new.volumes.journal)
-    (c.make_piece_ready.ensures.journal ∙ ap (λ (held : Holdings _). held.journal) c.self.view_is) c.from_residual-in_err-enter.result c.from_residual-in_err-enter.ensures.1
+    (c.make_piece_ready.ensures.journal ∙ ap (λ (held : Holdings _). held.journal) c.self.view_is) c.from_residual-in_err-entered.result c.from_residual-in_err-entered.ensures.1
 
 pub invariant_of-self-in-Err : goal.invariant_of-self-in-Err
 invariant_of-self-in-Err g c =
     let was : Holdings _ = holdings_of c.self.inside in
     let now = c.make_piece_ready.new.volumes in
-    let ready = c.in_ok-ready.ready in
+    let ready = c.in_ok-entered.entered in
     let text = c.args.text.now in
     let group = c.args.group in
     let first = c.args.first in
     let begins = c.args.begins in
     let t = laws.taking g.D.Disk c.args.self.now was c.self.inside.volumes now text group first begins ready c.self.view_is refl refl c.self.invariant
     c.requires.not_full c.requires.group c.requires.refers c.requires.holds c.requires.bounds c.make_piece_ready.ensures.journal
-    c.make_piece_ready.ensures.book c.in_ok-ready.ensures.ready c.in_ok-ready.ensures.room in
-    let is : c.as_slice.result.now ≡ (stored_in ready.stored).head =
-    c.as_slice.ensures ∙ c.in_ok-head.ensures ∙ sym (laws.head_same group.stored first) ∙ sym (ap (λ (s : Stored). s.head) t.ready_is.stored) in
-    let enters : (h : ResponseHead) → IsResponseHeadText (stored_in ready.stored).head h → EntersAs (stored_in ready.stored) h c.record_at-at.result c.in_ok-entry.entry =
-    λ h reads. c.in_ok-entry.ensures h (subst (λ (t : List ℕ). IsResponseHeadText t h) (sym is) reads) in
+    c.make_piece_ready.ensures.book (laws.handed_back text group first c.in_ok-ready.ready ready c.in_ok-entered.ensures.same c.in_ok-ready.ensures.ready)
+    (laws.room_back c.self.inside.volumes now begins c.in_ok-ready.ready ready c.in_ok-entered.ensures.same c.in_ok-ready.ensures.room) in
+    let has = c.in_ok-entered.ensures.entered in
+    let at_is = exits.record_back now c.in_ok-ready.ready ready c.record_at-at.result c.len-number.result c.in_ok-entered.ensures.same c.record_at-at.ensures in
     let many : c.len-number.result ≡ length c.self.inside.spots.items = search rules in
     let count : c.len-number.result ≡ length (captures was.book) = many ∙ c.self.invariant.spots.count in
     let number : c.len-number.result ≡ length (captures (book_of now.held)) =
     count ∙ sym (ap (λ (b : Book). length (captures b)) c.make_piece_ready.ensures.book) in
     let back = c.take_back.ensures
-    ∙ ap (λ (l : List Facts). without c.len-number.result l) c.in_ok-enter.ensures.entered
-    ∙ ap (λ (k : ℕ). without k (entered c.in_ok-entry.entry was.index)) number in
-    laws.refused_archive g.D.Disk c.storing_has_a_basis.ensures c.reading_laws.ensures was now text group first begins ready t c.record_at-at.result c.len-number.result c.record_at-at.ensures number c.in_ok-entry.entry enters
+    ∙ ap (λ (l : List Facts). without c.len-number.result l) has.is
+    ∙ ap (λ (k : ℕ). without k (entered has.entry was.index)) number in
+    laws.refused_archive g.D.Disk c.storing_has_a_basis.ensures c.reading_laws.ensures was now text group first begins ready t c.record_at-at.result c.len-number.result at_is number has.entry has.enters
     c.commit.new.self.journal (book_of c.commit.new.self.held) c.commit.new.table c.take_back.new.self c.commit.new.spots.items
     c.commit.ensures.holds c.commit.ensures.measured c.commit.ensures.table c.commit.ensures.spots c.commit.ensures.within c.commit.ensures.placed
-    (λ untold. c.commit.ensures.made (subst (λ (l : List Spot). AreHeldWhole (book_of now.held) l) (sym c.reserve_kept.ensures.spots) (t.is.made untold)))
+    (λ untold. c.commit.ensures.made (subst (λ (l : List Spot). AreHeldWhole (book_of now.held) l) (sym c.head_with_room.ensures.spots) (t.is.made untold)))
     c.commit.ensures.others
-    c.in-Err.ensures.left back c.in-Err.field-0 (c.in-Err.ensures.unkept ∙ c.reserve_kept.ensures.spots) c.in-Err.ensures.writes
+    c.in-Err.ensures.left back c.in-Err.field-0 (c.in-Err.ensures.unkept ∙ c.head_with_room.ensures.spots) c.in-Err.ensures.writes
 
-pub returns-clause-puts : goal.returns-clause-puts
-returns-clause-puts g c =
+pub returns-in-Err-clause-puts : goal.returns-in-Err-clause-puts
+returns-in-Err-clause-puts g c =
     let was : Holdings _ = holdings_of c.self.inside in
     let now = c.make_piece_ready.new.volumes in
-    let ready = c.in_ok-ready.ready in
+    let ready = c.in_ok-entered.entered in
     let text = c.args.text.now in
     let group = c.args.group in
     let first = c.args.first in
     let begins = c.args.begins in
     let t = laws.taking g.D.Disk c.args.self.now was c.self.inside.volumes now text group first begins ready c.self.view_is refl refl c.self.invariant
     c.requires.not_full c.requires.group c.requires.refers c.requires.holds c.requires.bounds c.make_piece_ready.ensures.journal
-    c.make_piece_ready.ensures.book c.in_ok-ready.ensures.ready c.in_ok-ready.ensures.room in
-    let is : c.as_slice.result.now ≡ (stored_in ready.stored).head =
-    c.as_slice.ensures ∙ c.in_ok-head.ensures ∙ sym (laws.head_same group.stored first) ∙ sym (ap (λ (s : Stored). s.head) t.ready_is.stored) in
-    let enters : (h : ResponseHead) → IsResponseHeadText (stored_in ready.stored).head h → EntersAs (stored_in ready.stored) h c.record_at-at.result c.in_ok-entry.entry =
-    λ h reads. c.in_ok-entry.ensures h (subst (λ (t : List ℕ). IsResponseHeadText t h) (sym is) reads) in
+    c.make_piece_ready.ensures.book (laws.handed_back text group first c.in_ok-ready.ready ready c.in_ok-entered.ensures.same c.in_ok-ready.ensures.ready)
+    (laws.room_back c.self.inside.volumes now begins c.in_ok-ready.ready ready c.in_ok-entered.ensures.same c.in_ok-ready.ensures.room) in
+    let has = c.in_ok-entered.ensures.entered in
+    let at_is = exits.record_back now c.in_ok-ready.ready ready c.record_at-at.result c.len-number.result c.in_ok-entered.ensures.same c.record_at-at.ensures in
     let many : c.len-number.result ≡ length c.self.inside.spots.items = search rules in
     let count : c.len-number.result ≡ length (captures was.book) = many ∙ c.self.invariant.spots.count in
     let number : c.len-number.result ≡ length (captures (book_of now.held)) =
     count ∙ sym (ap (λ (b : Book). length (captures b)) c.make_piece_ready.ensures.book) in
     let back = c.take_back.ensures
-    ∙ ap (λ (l : List Facts). without c.len-number.result l) c.in_ok-enter.ensures.entered
-    ∙ ap (λ (k : ℕ). without k (entered c.in_ok-entry.entry was.index)) number in
+    ∙ ap (λ (l : List Facts). without c.len-number.result l) has.is
+    ∙ ap (λ (k : ℕ). without k (entered has.entry was.index)) number in
     let same : exits.in_volumes was now ≡ c.args.self.now =
     exits.same_holdings was now c.make_piece_ready.ensures.journal c.make_piece_ready.ensures.book ∙ c.self.view_is in
     let is : Holdings _ = record was {
@@ -390,10 +356,10 @@ returns-clause-puts g c =
       spots = c.commit.new.spots.items;
     } in
     subst (λ (held : Holdings _). Puts g.D.Disk held is (parts_as text group first begins) (Err pieces.DiskFault)) same
-    (laws.refused_puts g.D.Disk c.storing_has_a_basis.ensures c.reading_laws.ensures was now text group first begins ready t c.record_at-at.result c.len-number.result c.record_at-at.ensures number c.in_ok-entry.entry enters
+    (laws.refused_puts g.D.Disk c.storing_has_a_basis.ensures c.reading_laws.ensures was now text group first begins ready t c.record_at-at.result c.len-number.result at_is number has.entry has.enters
     c.commit.new.self.journal (book_of c.commit.new.self.held) c.commit.new.table c.take_back.new.self c.commit.new.spots.items
     c.commit.ensures.holds c.commit.ensures.measured c.commit.ensures.table c.commit.ensures.spots c.commit.ensures.within c.commit.ensures.placed
-    (λ untold. c.commit.ensures.made (subst (λ (l : List Spot). AreHeldWhole (book_of now.held) l) (sym c.reserve_kept.ensures.spots) (t.is.made untold)))
+    (λ untold. c.commit.ensures.made (subst (λ (l : List Spot). AreHeldWhole (book_of now.held) l) (sym c.head_with_room.ensures.spots) (t.is.made untold)))
     c.commit.ensures.others
     c.in-Err.ensures.left back c.in-Err.field-0 c.in-Err.ensures.writes c.in-Err.ensures.bytes)
 
@@ -409,47 +375,45 @@ pub invariant_of-self-in-Ok : goal.invariant_of-self-in-Ok
 invariant_of-self-in-Ok g c =
     let was : Holdings _ = holdings_of c.self.inside in
     let now = c.make_piece_ready.new.volumes in
-    let ready = c.in_ok-ready.ready in
+    let ready = c.in_ok-entered.entered in
     let text = c.args.text.now in
     let group = c.args.group in
     let first = c.args.first in
     let begins = c.args.begins in
     let t = laws.taking g.D.Disk c.args.self.now was c.self.inside.volumes now text group first begins ready c.self.view_is refl refl c.self.invariant
     c.requires.not_full c.requires.group c.requires.refers c.requires.holds c.requires.bounds c.make_piece_ready.ensures.journal
-    c.make_piece_ready.ensures.book c.in_ok-ready.ensures.ready c.in_ok-ready.ensures.room in
-    let is : c.as_slice.result.now ≡ (stored_in ready.stored).head =
-    c.as_slice.ensures ∙ c.in_ok-head.ensures ∙ sym (laws.head_same group.stored first) ∙ sym (ap (λ (s : Stored). s.head) t.ready_is.stored) in
-    let enters : (h : ResponseHead) → IsResponseHeadText (stored_in ready.stored).head h → EntersAs (stored_in ready.stored) h c.record_at-at.result c.in_ok-entry.entry =
-    λ h reads. c.in_ok-entry.ensures h (subst (λ (t : List ℕ). IsResponseHeadText t h) (sym is) reads) in
+    c.make_piece_ready.ensures.book (laws.handed_back text group first c.in_ok-ready.ready ready c.in_ok-entered.ensures.same c.in_ok-ready.ensures.ready)
+    (laws.room_back c.self.inside.volumes now begins c.in_ok-ready.ready ready c.in_ok-entered.ensures.same c.in_ok-ready.ensures.room) in
+    let has = c.in_ok-entered.ensures.entered in
+    let at_is = exits.record_back now c.in_ok-ready.ready ready c.record_at-at.result c.len-number.result c.in_ok-entered.ensures.same c.record_at-at.ensures in
     let many : c.len-number.result ≡ length c.self.inside.spots.items = search rules in
     let count : c.len-number.result ≡ length (captures was.book) = many ∙ c.self.invariant.spots.count in
     let number : c.len-number.result ≡ length (captures (book_of now.held)) =
     count ∙ sym (ap (λ (b : Book). length (captures b)) c.make_piece_ready.ensures.book) in
     let more = ap (λ (k : ℕ). c.self.inside.revisits + k) c.revisits_in.ensures in
-    laws.stored_archive g.D.Disk c.storing_has_a_basis.ensures c.reading_laws.ensures was now text group first begins ready t c.record_at-at.result c.len-number.result c.record_at-at.ensures number c.in_ok-entry.entry enters
-    c.commit.new.self.journal (book_of c.commit.new.self.held) c.commit.new.table c.enter.new.index c.commit.new.spots.items
+    laws.stored_archive g.D.Disk c.storing_has_a_basis.ensures c.reading_laws.ensures was now text group first begins ready t c.record_at-at.result c.len-number.result at_is number has.entry has.enters
+    c.commit.new.self.journal (book_of c.commit.new.self.held) c.commit.new.table c.enter_ready.new.index c.commit.new.spots.items
     c.commit.ensures.holds c.commit.ensures.measured c.commit.ensures.table c.commit.ensures.spots c.commit.ensures.within c.commit.ensures.placed
-    (λ untold. c.commit.ensures.made (subst (λ (l : List Spot). AreHeldWhole (book_of now.held) l) (sym c.reserve_kept.ensures.spots) (t.is.made untold)))
+    (λ untold. c.commit.ensures.made (subst (λ (l : List Spot). AreHeldWhole (book_of now.held) l) (sym c.head_with_room.ensures.spots) (t.is.made untold)))
     c.commit.ensures.others
-    (c.self.inside.revisits + c.revisits_in.result) c.in-Ok.ensures.stored c.in_ok-enter.ensures.entered c.in-Ok.field-0
-    (c.in-Ok.ensures.kept ∙ ap (λ (l : List Spot). l ++ spot_in now ready ∷ []) c.reserve_kept.ensures.spots) c.in-Ok.ensures.writes c.enter.ensures.indexed more
+    (c.self.inside.revisits + c.revisits_in.result) c.in-Ok.ensures.stored has.is c.in-Ok.field-0
+    (c.in-Ok.ensures.kept ∙ ap (λ (l : List Spot). l ++ spot_in now ready ∷ []) c.head_with_room.ensures.spots) c.in-Ok.ensures.writes c.enter_ready.ensures.indexed more
 
 pub returns-in-Ok-clause-puts : goal.returns-in-Ok-clause-puts
 returns-in-Ok-clause-puts g c =
     let was : Holdings _ = holdings_of c.self.inside in
     let now = c.make_piece_ready.new.volumes in
-    let ready = c.in_ok-ready.ready in
+    let ready = c.in_ok-entered.entered in
     let text = c.args.text.now in
     let group = c.args.group in
     let first = c.args.first in
     let begins = c.args.begins in
     let t = laws.taking g.D.Disk c.args.self.now was c.self.inside.volumes now text group first begins ready c.self.view_is refl refl c.self.invariant
     c.requires.not_full c.requires.group c.requires.refers c.requires.holds c.requires.bounds c.make_piece_ready.ensures.journal
-    c.make_piece_ready.ensures.book c.in_ok-ready.ensures.ready c.in_ok-ready.ensures.room in
-    let is : c.as_slice.result.now ≡ (stored_in ready.stored).head =
-    c.as_slice.ensures ∙ c.in_ok-head.ensures ∙ sym (laws.head_same group.stored first) ∙ sym (ap (λ (s : Stored). s.head) t.ready_is.stored) in
-    let enters : (h : ResponseHead) → IsResponseHeadText (stored_in ready.stored).head h → EntersAs (stored_in ready.stored) h c.record_at-at.result c.in_ok-entry.entry =
-    λ h reads. c.in_ok-entry.ensures h (subst (λ (t : List ℕ). IsResponseHeadText t h) (sym is) reads) in
+    c.make_piece_ready.ensures.book (laws.handed_back text group first c.in_ok-ready.ready ready c.in_ok-entered.ensures.same c.in_ok-ready.ensures.ready)
+    (laws.room_back c.self.inside.volumes now begins c.in_ok-ready.ready ready c.in_ok-entered.ensures.same c.in_ok-ready.ensures.room) in
+    let has = c.in_ok-entered.ensures.entered in
+    let at_is = exits.record_back now c.in_ok-ready.ready ready c.record_at-at.result c.len-number.result c.in_ok-entered.ensures.same c.record_at-at.ensures in
     let many : c.len-number.result ≡ length c.self.inside.spots.items = search rules in
     let count : c.len-number.result ≡ length (captures was.book) = many ∙ c.self.invariant.spots.count in
     let number : c.len-number.result ≡ length (captures (book_of now.held)) =
@@ -460,14 +424,14 @@ returns-in-Ok-clause-puts g c =
       journal = c.commit.new.self.journal;
       book = book_of c.commit.new.self.held;
       table = c.commit.new.table;
-      index = c.enter.new.index;
+      index = c.enter_ready.new.index;
       spots = c.commit.new.spots.items;
       revisits = c.self.inside.revisits + c.revisits_in.result;
     } in
     subst (λ (held : Holdings _). Puts g.D.Disk held is (parts_as text group first begins) (Ok c.len-number.result)) same
-    (laws.stored_puts g.D.Disk c.storing_has_a_basis.ensures c.reading_laws.ensures was now text group first begins ready t c.record_at-at.result c.len-number.result c.record_at-at.ensures number c.in_ok-entry.entry enters
-    c.commit.new.self.journal (book_of c.commit.new.self.held) c.commit.new.table c.enter.new.index c.commit.new.spots.items
+    (laws.stored_puts g.D.Disk c.storing_has_a_basis.ensures c.reading_laws.ensures was now text group first begins ready t c.record_at-at.result c.len-number.result at_is number has.entry has.enters
+    c.commit.new.self.journal (book_of c.commit.new.self.held) c.commit.new.table c.enter_ready.new.index c.commit.new.spots.items
     c.commit.ensures.holds c.commit.ensures.measured c.commit.ensures.table c.commit.ensures.spots c.commit.ensures.within c.commit.ensures.placed
-    (λ untold. c.commit.ensures.made (subst (λ (l : List Spot). AreHeldWhole (book_of now.held) l) (sym c.reserve_kept.ensures.spots) (t.is.made untold)))
+    (λ untold. c.commit.ensures.made (subst (λ (l : List Spot). AreHeldWhole (book_of now.held) l) (sym c.head_with_room.ensures.spots) (t.is.made untold)))
     c.commit.ensures.others
-    (c.self.inside.revisits + c.revisits_in.result) c.in-Ok.ensures.stored c.in_ok-enter.ensures.entered c.in-Ok.field-0 c.in-Ok.ensures.writes c.in-Ok.ensures.last_len c.in-Ok.ensures.bytes c.len-number.result number)
+    (c.self.inside.revisits + c.revisits_in.result) c.in-Ok.ensures.stored has.is c.in-Ok.field-0 c.in-Ok.ensures.writes c.in-Ok.ensures.last_len c.in-Ok.ensures.bytes c.len-number.result number)

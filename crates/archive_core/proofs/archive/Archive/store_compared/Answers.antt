@@ -5,13 +5,12 @@ use Rattle.capture.specs.Message.{IsResponseHeadText}
 use Rattle.capture.specs.declared.book.Book.{Book}
 use Rattle.capture.specs.declared.captured.Stored.{Stored}
 use Rattle.cdxj_index.specs.Facts.{Facts}
-use Rattle.httparse.specs.Grammar.{ResponseHead}
 use Rattle.cdxj_index.specs.Order.{without}
 use Rattle.time_text.specs.Texts.{InRange}
 use Rattle.warc_journal.specs.Journals.{texts}
 use Rattle.archive_shelf.specs.declared.fault.StoreFault.TheVariants as stores
 use Rattle.archive_shelf.specs.declared.receipt.Receipt.{Receipt}
-use Rattle.archive_volumes.specs.Entries.{EntersAs, entered}
+use Rattle.archive_volumes.specs.Entries.{entered}
 use Rattle.archive_volumes.specs.Held.{book_of, stored_in}
 use Rattle.archive_core.specs.Holdings.{Holdings, contents_of}
 use Rattle.archive_core.specs.Looking.{RefersTo}
@@ -24,6 +23,7 @@ use Rattle.archive_volumes.proofs.ChangeLaws.{DiskLaws}
 use Rattle.archive_core.proofs.ExitLaws as laws
 use Rattle.archive_core.proofs.PayloadLaws.{has_one}
 use Rattle.archive_core.proofs.FaultLaws.{memory_since}
+use Rattle.archive_core.proofs.NamedLaws.{before_at}
 use Rattle.archive_core.proofs.archive.Archive.store_compared.Given.{Over}
 use Rattle.archive_core.proofs.archive.Archive.store_compared.Goals as goal
 
@@ -80,8 +80,8 @@ record_at-at-requires-clause-room g c =
     c.make_ready.ensures.book c.in_ok-ready.ensures.ready in
     u.ready_is.room
 
-pub entry_for-requires-clause-date : goal.entry_for-requires-clause-date
-entry_for-requires-clause-date g c =
+pub enter_ready-requires-clause-date : goal.enter_ready-requires-clause-date
+enter_ready-requires-clause-date g c =
     let was : Holdings _ = holdings_of c.self.inside in
     let now = c.make_ready.new.self in
     let ready = c.in_ok-ready.ready in
@@ -90,8 +90,8 @@ entry_for-requires-clause-date g c =
     c.make_ready.ensures.book c.in_ok-ready.ensures.ready in
     subst (λ (s : Stored). InRange s.date) (sym u.ready_is.stored) c.requires.fits.date
 
-pub entry_for-requires-clause-head : goal.entry_for-requires-clause-head
-entry_for-requires-clause-head g c =
+pub enter_ready-requires-clause-head : goal.enter_ready-requires-clause-head
+enter_ready-requires-clause-head g c =
     let was : Holdings _ = holdings_of c.self.inside in
     let now = c.make_ready.new.self in
     let ready = c.in_ok-ready.ready in
@@ -105,8 +105,8 @@ entry_for-requires-clause-head g c =
           (laws.ready_head g.D.Disk c.storing_has_a_basis.ensures was now (incoming_of c.args.taken.now c.args.digest.now c.args.same) ready u),
     )
 
-pub entry_for-requires-clause-kept : goal.entry_for-requires-clause-kept
-entry_for-requires-clause-kept g c =
+pub enter_ready-requires-clause-kept : goal.enter_ready-requires-clause-kept
+enter_ready-requires-clause-kept g c =
     let was : Holdings _ = holdings_of c.self.inside in
     let now = c.make_ready.new.self in
     let ready = c.in_ok-ready.ready in
@@ -115,8 +115,8 @@ entry_for-requires-clause-kept g c =
     c.make_ready.ensures.book c.in_ok-ready.ensures.ready in
     u.ready_is.kept
 
-pub entry_for-requires-clause-is : goal.entry_for-requires-clause-is
-entry_for-requires-clause-is g c =
+pub enter_ready-requires-clause-is : goal.enter_ready-requires-clause-is
+enter_ready-requires-clause-is g c =
     let was : Holdings _ = holdings_of c.self.inside in
     let now = c.make_ready.new.self in
     let ready = c.in_ok-ready.ready in
@@ -125,36 +125,25 @@ entry_for-requires-clause-is g c =
     c.make_ready.ensures.book c.in_ok-ready.ensures.ready in
     c.as_slice-2.ensures ∙ sym (ap (λ (s : Stored). s.head) u.ready_is.stored)
 
-pub enter-requires-clause-indexed : goal.enter-requires-clause-indexed
-enter-requires-clause-indexed g c = c.self.invariant.indexed
+pub enter_ready-requires-clause-indexed : goal.enter_ready-requires-clause-indexed
+enter_ready-requires-clause-indexed g c = c.self.invariant.indexed
 
-pub enter-requires-clause-behind : goal.enter-requires-clause-behind
-enter-requires-clause-behind g c =
+pub enter_ready-requires-clause-behind : goal.enter_ready-requires-clause-behind
+enter_ready-requires-clause-behind g c =
     let was : Holdings _ = holdings_of c.self.inside in
-    let now = c.make_ready.new.self in
-    let ready = c.in_ok-ready.ready in
-    let u = laws.under_way g.D.Disk c.storing_has_a_basis.ensures c.args.self.now was c.self.inside.volumes now (incoming_of c.args.taken.now c.args.digest.now c.args.same) ready c.self.view_is
-    refl refl c.self.invariant c.requires.fits c.requires.not_full c.requires.digest c.requires.refers c.make_ready.ensures.journal
-    c.make_ready.ensures.book c.in_ok-ready.ensures.ready in
-    let is : c.as_slice-2.result.now ≡ (stored_in ready.stored).head =
-    c.as_slice-2.ensures ∙ sym (ap (λ (s : Stored). s.head) u.ready_is.stored) in
-    let enters : (h : ResponseHead) → IsResponseHeadText (stored_in ready.stored).head h → EntersAs (stored_in ready.stored) h c.record_at-at.result c.in_ok-entry.entry =
-    λ h reads. c.in_ok-entry.ensures h (subst (λ (t : List ℕ). IsResponseHeadText t h) (sym is) reads) in
     let many : c.len-number.result ≡ length c.self.inside.spots.items = search rules in
-    let count : c.len-number.result ≡ length (captures was.book) = many ∙ c.self.invariant.spots.count in
-    let number : c.len-number.result ≡ length (captures (book_of now.held)) =
-    count ∙ sym (ap (λ (b : Book). length (captures b)) c.make_ready.ensures.book) in
-    laws.entry_behind g.D.Disk c.storing_has_a_basis.ensures was now (incoming_of c.args.taken.now c.args.digest.now c.args.same) ready u c.record_at-at.result c.len-number.result
-    c.record_at-at.ensures number c.in_ok-entry.entry enters
+    before_at c.make_ready.new.self c.in_ok-ready.ready c.record_at-at.result c.len-number.result (length (captures was.book)) c.record_at-at.ensures
+    (many ∙ c.self.invariant.spots.count) was.index c.self.invariant.counted.below
 
 pub commit-requires-clause-ready : goal.commit-requires-clause-ready
 commit-requires-clause-ready g c =
     let was : Holdings _ = holdings_of c.self.inside in
     let now = c.make_ready.new.self in
-    let ready = c.in_ok-ready.ready in
+    let ready = c.in_ok-entered.entered in
     let u = laws.under_way g.D.Disk c.storing_has_a_basis.ensures c.args.self.now was c.self.inside.volumes now (incoming_of c.args.taken.now c.args.digest.now c.args.same) ready c.self.view_is
     refl refl c.self.invariant c.requires.fits c.requires.not_full c.requires.digest c.requires.refers c.make_ready.ensures.journal
-    c.make_ready.ensures.book c.in_ok-ready.ensures.ready in
+    c.make_ready.ensures.book (laws.handed_back c.self.inside.volumes now was.limits.volume_bytes (incoming_of c.args.taken.now c.args.digest.now c.args.same) c.in_ok-ready.ready ready c.in_ok-entered.ensures.same
+    c.in_ok-ready.ensures.ready) in
     laws.commit_ready g.D.Disk c.storing_has_a_basis.ensures was now (incoming_of c.args.taken.now c.args.digest.now c.args.same) ready u
 
 pub commit-requires-clause-holds : goal.commit-requires-clause-holds
@@ -220,10 +209,11 @@ pub commit-requires-clause-reserved : goal.commit-requires-clause-reserved
 commit-requires-clause-reserved g c =
     let was : Holdings _ = holdings_of c.self.inside in
     let now = c.make_ready.new.self in
-    let ready = c.in_ok-ready.ready in
+    let ready = c.in_ok-entered.entered in
     let u = laws.under_way g.D.Disk c.storing_has_a_basis.ensures c.args.self.now was c.self.inside.volumes now (incoming_of c.args.taken.now c.args.digest.now c.args.same) ready c.self.view_is
     refl refl c.self.invariant c.requires.fits c.requires.not_full c.requires.digest c.requires.refers c.make_ready.ensures.journal
-    c.make_ready.ensures.book c.in_ok-ready.ensures.ready in
+    c.make_ready.ensures.book (laws.handed_back c.self.inside.volumes now was.limits.volume_bytes (incoming_of c.args.taken.now c.args.digest.now c.args.same) c.in_ok-ready.ready ready c.in_ok-entered.ensures.same
+    c.in_ok-ready.ensures.ready) in
     c.in_ok-reserve_kept.ensures.reserved ∙ ap (λ (digest : List ℕ). Some digest) (sym u.ready_is.digest)
 
 pub commit-requires-clause-few : goal.commit-requires-clause-few
@@ -256,53 +246,39 @@ returns-in_err-ready-clause-stores g c =
     subst (λ (held : Holdings _). Stores g.D.Disk held is c.args.taken.now c.from_residual-in_err-ready.result) c.self.view_is
     (laws.memory_exit g.D.Disk was is c.make_ready.ensures.journal c.make_ready.ensures.book refl refl refl refl refl c.args.taken.now c.from_residual-in_err-ready.result c.from_residual-in_err-ready.ensures.1)
 
-pub invariant_of-self-in_err-entry : goal.invariant_of-self-in_err-entry
-invariant_of-self-in_err-entry g c =
+pub invariant_of-self-in_err-entered : goal.invariant_of-self-in_err-entered
+invariant_of-self-in_err-entered g c =
     let was : Holdings _ = holdings_of c.self.inside in
-    laws.memory_archive g.D.Disk was (record was { journal = c.make_ready.new.self.journal; book = book_of c.make_ready.new.self.held; table = c.reserve_kept.new.table; index = c.self.inside.index; spots = c.reserve_kept.new.spots.items }) c.make_ready.ensures.journal c.make_ready.ensures.book refl refl refl refl refl
+    laws.memory_archive g.D.Disk was (record was { journal = c.make_ready.new.self.journal; book = book_of c.make_ready.new.self.held; table = c.reserve_kept.new.table; index = c.enter_ready.new.index; spots = c.reserve_kept.new.spots.items }) c.make_ready.ensures.journal c.make_ready.ensures.book c.in_err-entered.ensures.refused refl refl refl refl
     c.self.invariant c.reserve_kept.ensures.spots c.reserve_kept.ensures.table refl
 
-pub returns-in_err-entry-clause-stores : goal.returns-in_err-entry-clause-stores
-returns-in_err-entry-clause-stores g c =
+pub returns-in_err-entered-clause-stores : goal.returns-in_err-entered-clause-stores
+returns-in_err-entered-clause-stores g c =
     let was : Holdings _ = holdings_of c.self.inside in
-    let is : Holdings _ = record was { journal = c.make_ready.new.self.journal; book = book_of c.make_ready.new.self.held; table = c.reserve_kept.new.table; index = c.self.inside.index; spots = c.reserve_kept.new.spots.items } in
-    subst (λ (held : Holdings _). Stores g.D.Disk held is c.args.taken.now c.from_residual-in_err-entry.result) c.self.view_is
-    (laws.memory_exit g.D.Disk was is c.make_ready.ensures.journal c.make_ready.ensures.book refl refl refl refl refl c.args.taken.now c.from_residual-in_err-entry.result c.from_residual-in_err-entry.ensures.1)
-
-pub invariant_of-self-in_err-enter : goal.invariant_of-self-in_err-enter
-invariant_of-self-in_err-enter g c =
-    let was : Holdings _ = holdings_of c.self.inside in
-    laws.memory_archive g.D.Disk was (record was { journal = c.make_ready.new.self.journal; book = book_of c.make_ready.new.self.held; table = c.reserve_kept.new.table; index = c.enter.new.index; spots = c.reserve_kept.new.spots.items }) c.make_ready.ensures.journal c.make_ready.ensures.book c.in_err-enter.ensures.refused refl refl refl refl
-    c.self.invariant c.reserve_kept.ensures.spots c.reserve_kept.ensures.table refl
-
-pub returns-in_err-enter-clause-stores : goal.returns-in_err-enter-clause-stores
-returns-in_err-enter-clause-stores g c =
-    let was : Holdings _ = holdings_of c.self.inside in
-    let is : Holdings _ = record was { journal = c.make_ready.new.self.journal; book = book_of c.make_ready.new.self.held; table = c.reserve_kept.new.table; index = c.enter.new.index; spots = c.reserve_kept.new.spots.items } in
-    subst (λ (held : Holdings _). Stores g.D.Disk held is c.args.taken.now c.from_residual-in_err-enter.result) c.self.view_is
-    (laws.memory_exit g.D.Disk was is c.make_ready.ensures.journal c.make_ready.ensures.book c.in_err-enter.ensures.refused refl refl refl refl c.args.taken.now c.from_residual-in_err-enter.result c.from_residual-in_err-enter.ensures.1)
+    let is : Holdings _ = record was { journal = c.make_ready.new.self.journal; book = book_of c.make_ready.new.self.held; table = c.reserve_kept.new.table; index = c.enter_ready.new.index; spots = c.reserve_kept.new.spots.items } in
+    subst (λ (held : Holdings _). Stores g.D.Disk held is c.args.taken.now c.from_residual-in_err-entered.result) c.self.view_is
+    (laws.memory_exit g.D.Disk was is c.make_ready.ensures.journal c.make_ready.ensures.book c.in_err-entered.ensures.refused refl refl refl refl c.args.taken.now c.from_residual-in_err-entered.result c.from_residual-in_err-entered.ensures.1)
 
 pub invariant_of-self-in-Err : goal.invariant_of-self-in-Err
 invariant_of-self-in-Err g c =
     let was : Holdings _ = holdings_of c.self.inside in
     let now = c.make_ready.new.self in
-    let ready = c.in_ok-ready.ready in
+    let ready = c.in_ok-entered.entered in
     let u = laws.under_way g.D.Disk c.storing_has_a_basis.ensures c.args.self.now was c.self.inside.volumes now (incoming_of c.args.taken.now c.args.digest.now c.args.same) ready c.self.view_is
     refl refl c.self.invariant c.requires.fits c.requires.not_full c.requires.digest c.requires.refers c.make_ready.ensures.journal
-    c.make_ready.ensures.book c.in_ok-ready.ensures.ready in
-    let is : c.as_slice-2.result.now ≡ (stored_in ready.stored).head =
-    c.as_slice-2.ensures ∙ sym (ap (λ (s : Stored). s.head) u.ready_is.stored) in
-    let enters : (h : ResponseHead) → IsResponseHeadText (stored_in ready.stored).head h → EntersAs (stored_in ready.stored) h c.record_at-at.result c.in_ok-entry.entry =
-    λ h reads. c.in_ok-entry.ensures h (subst (λ (t : List ℕ). IsResponseHeadText t h) (sym is) reads) in
+    c.make_ready.ensures.book (laws.handed_back c.self.inside.volumes now was.limits.volume_bytes (incoming_of c.args.taken.now c.args.digest.now c.args.same) c.in_ok-ready.ready ready c.in_ok-entered.ensures.same
+    c.in_ok-ready.ensures.ready) in
+    let has = c.in_ok-entered.ensures.entered in
+    let at_is = laws.record_back now c.in_ok-ready.ready ready c.record_at-at.result c.len-number.result c.in_ok-entered.ensures.same c.record_at-at.ensures in
     let many : c.len-number.result ≡ length c.self.inside.spots.items = search rules in
     let count : c.len-number.result ≡ length (captures was.book) = many ∙ c.self.invariant.spots.count in
     let number : c.len-number.result ≡ length (captures (book_of now.held)) =
     count ∙ sym (ap (λ (b : Book). length (captures b)) c.make_ready.ensures.book) in
     let back = c.take_back.ensures
-    ∙ ap (λ (l : List Facts). without c.len-number.result l) c.in_ok-enter.ensures.entered
-    ∙ ap (λ (k : ℕ). without k (entered c.in_ok-entry.entry was.index)) number in
+    ∙ ap (λ (l : List Facts). without c.len-number.result l) has.is
+    ∙ ap (λ (k : ℕ). without k (entered has.entry was.index)) number in
     laws.refused_archive g.D.Disk c.storing_has_a_basis.ensures was now (incoming_of c.args.taken.now c.args.digest.now c.args.same) ready u c.record_at-at.result c.len-number.result
-    c.record_at-at.ensures number c.in_ok-entry.entry enters (disk_laws g)
+    at_is number has.entry has.enters (disk_laws g)
     c.commit.new.self.journal (book_of c.commit.new.self.held) c.commit.new.table c.take_back.new.self c.commit.new.spots.items
     c.commit.ensures.holds c.commit.ensures.measured c.commit.ensures.table c.commit.ensures.spots c.commit.ensures.within c.commit.ensures.placed
     (λ untold. c.commit.ensures.made (subst (λ (l : List Spot). AreHeldWhole (book_of now.held) l) (sym c.reserve_kept.ensures.spots) (u.is.made untold)))
@@ -313,21 +289,20 @@ pub returns-in-Err-clause-stores : goal.returns-in-Err-clause-stores
 returns-in-Err-clause-stores g c =
     let was : Holdings _ = holdings_of c.self.inside in
     let now = c.make_ready.new.self in
-    let ready = c.in_ok-ready.ready in
+    let ready = c.in_ok-entered.entered in
     let u = laws.under_way g.D.Disk c.storing_has_a_basis.ensures c.args.self.now was c.self.inside.volumes now (incoming_of c.args.taken.now c.args.digest.now c.args.same) ready c.self.view_is
     refl refl c.self.invariant c.requires.fits c.requires.not_full c.requires.digest c.requires.refers c.make_ready.ensures.journal
-    c.make_ready.ensures.book c.in_ok-ready.ensures.ready in
-    let is : c.as_slice-2.result.now ≡ (stored_in ready.stored).head =
-    c.as_slice-2.ensures ∙ sym (ap (λ (s : Stored). s.head) u.ready_is.stored) in
-    let enters : (h : ResponseHead) → IsResponseHeadText (stored_in ready.stored).head h → EntersAs (stored_in ready.stored) h c.record_at-at.result c.in_ok-entry.entry =
-    λ h reads. c.in_ok-entry.ensures h (subst (λ (t : List ℕ). IsResponseHeadText t h) (sym is) reads) in
+    c.make_ready.ensures.book (laws.handed_back c.self.inside.volumes now was.limits.volume_bytes (incoming_of c.args.taken.now c.args.digest.now c.args.same) c.in_ok-ready.ready ready c.in_ok-entered.ensures.same
+    c.in_ok-ready.ensures.ready) in
+    let has = c.in_ok-entered.ensures.entered in
+    let at_is = laws.record_back now c.in_ok-ready.ready ready c.record_at-at.result c.len-number.result c.in_ok-entered.ensures.same c.record_at-at.ensures in
     let many : c.len-number.result ≡ length c.self.inside.spots.items = search rules in
     let count : c.len-number.result ≡ length (captures was.book) = many ∙ c.self.invariant.spots.count in
     let number : c.len-number.result ≡ length (captures (book_of now.held)) =
     count ∙ sym (ap (λ (b : Book). length (captures b)) c.make_ready.ensures.book) in
     let back = c.take_back.ensures
-    ∙ ap (λ (l : List Facts). without c.len-number.result l) c.in_ok-enter.ensures.entered
-    ∙ ap (λ (k : ℕ). without k (entered c.in_ok-entry.entry was.index)) number in
+    ∙ ap (λ (l : List Facts). without c.len-number.result l) has.is
+    ∙ ap (λ (k : ℕ). without k (entered has.entry was.index)) number in
     let same : laws.in_volumes was now ≡ c.args.self.now =
     laws.same_holdings was now c.make_ready.ensures.journal c.make_ready.ensures.book ∙ c.self.view_is in
     let is : Holdings _ = record was {
@@ -339,7 +314,7 @@ returns-in-Err-clause-stores g c =
     } in
     subst (λ (held : Holdings _). Stores g.D.Disk held is c.args.taken.now (Err stores.DiskFault)) same
     (laws.refused_stores g.D.Disk c.storing_has_a_basis.ensures was now (incoming_of c.args.taken.now c.args.digest.now c.args.same) ready u c.record_at-at.result c.len-number.result
-    c.record_at-at.ensures number c.in_ok-entry.entry enters (disk_laws g)
+    at_is number has.entry has.enters (disk_laws g)
     c.commit.new.self.journal (book_of c.commit.new.self.held) c.commit.new.table c.take_back.new.self c.commit.new.spots.items
     c.commit.ensures.holds c.commit.ensures.measured c.commit.ensures.table c.commit.ensures.spots c.commit.ensures.within c.commit.ensures.placed
     (λ untold. c.commit.ensures.made (subst (λ (l : List Spot). AreHeldWhole (book_of now.held) l) (sym c.reserve_kept.ensures.spots) (u.is.made untold)))
@@ -360,41 +335,39 @@ pub invariant_of-self-in-Ok : goal.invariant_of-self-in-Ok
 invariant_of-self-in-Ok g c =
     let was : Holdings _ = holdings_of c.self.inside in
     let now = c.make_ready.new.self in
-    let ready = c.in_ok-ready.ready in
+    let ready = c.in_ok-entered.entered in
     let u = laws.under_way g.D.Disk c.storing_has_a_basis.ensures c.args.self.now was c.self.inside.volumes now (incoming_of c.args.taken.now c.args.digest.now c.args.same) ready c.self.view_is
     refl refl c.self.invariant c.requires.fits c.requires.not_full c.requires.digest c.requires.refers c.make_ready.ensures.journal
-    c.make_ready.ensures.book c.in_ok-ready.ensures.ready in
-    let is : c.as_slice-2.result.now ≡ (stored_in ready.stored).head =
-    c.as_slice-2.ensures ∙ sym (ap (λ (s : Stored). s.head) u.ready_is.stored) in
-    let enters : (h : ResponseHead) → IsResponseHeadText (stored_in ready.stored).head h → EntersAs (stored_in ready.stored) h c.record_at-at.result c.in_ok-entry.entry =
-    λ h reads. c.in_ok-entry.ensures h (subst (λ (t : List ℕ). IsResponseHeadText t h) (sym is) reads) in
+    c.make_ready.ensures.book (laws.handed_back c.self.inside.volumes now was.limits.volume_bytes (incoming_of c.args.taken.now c.args.digest.now c.args.same) c.in_ok-ready.ready ready c.in_ok-entered.ensures.same
+    c.in_ok-ready.ensures.ready) in
+    let has = c.in_ok-entered.ensures.entered in
+    let at_is = laws.record_back now c.in_ok-ready.ready ready c.record_at-at.result c.len-number.result c.in_ok-entered.ensures.same c.record_at-at.ensures in
     let many : c.len-number.result ≡ length c.self.inside.spots.items = search rules in
     let count : c.len-number.result ≡ length (captures was.book) = many ∙ c.self.invariant.spots.count in
     let number : c.len-number.result ≡ length (captures (book_of now.held)) =
     count ∙ sym (ap (λ (b : Book). length (captures b)) c.make_ready.ensures.book) in
     let more = ap (λ (k : ℕ). c.self.inside.revisits + k) c.revisits_in.ensures in
     laws.stored_archive g.D.Disk c.storing_has_a_basis.ensures was now (incoming_of c.args.taken.now c.args.digest.now c.args.same) ready u c.record_at-at.result c.len-number.result
-    c.record_at-at.ensures number c.in_ok-entry.entry enters (disk_laws g)
-    c.commit.new.self.journal (book_of c.commit.new.self.held) c.commit.new.table c.enter.new.index c.commit.new.spots.items
+    at_is number has.entry has.enters (disk_laws g)
+    c.commit.new.self.journal (book_of c.commit.new.self.held) c.commit.new.table c.enter_ready.new.index c.commit.new.spots.items
     c.commit.ensures.holds c.commit.ensures.measured c.commit.ensures.table c.commit.ensures.spots c.commit.ensures.within c.commit.ensures.placed
     (λ untold. c.commit.ensures.made (subst (λ (l : List Spot). AreHeldWhole (book_of now.held) l) (sym c.reserve_kept.ensures.spots) (u.is.made untold)))
     c.commit.ensures.others
-    (c.self.inside.revisits + c.revisits_in.result) c.in-Ok.ensures.stored c.in_ok-enter.ensures.entered c.in-Ok.field-0
+    (c.self.inside.revisits + c.revisits_in.result) c.in-Ok.ensures.stored has.is c.in-Ok.field-0
     (c.in-Ok.ensures.kept ∙ ap (λ (l : List Spot). l ++ spot_in now ready ∷ []) c.reserve_kept.ensures.spots) c.in-Ok.ensures.writes
-    c.enter.ensures.indexed more
+    c.enter_ready.ensures.indexed more
 
 pub returns-in-Ok-clause-stores : goal.returns-in-Ok-clause-stores
 returns-in-Ok-clause-stores g c =
     let was : Holdings _ = holdings_of c.self.inside in
     let now = c.make_ready.new.self in
-    let ready = c.in_ok-ready.ready in
+    let ready = c.in_ok-entered.entered in
     let u = laws.under_way g.D.Disk c.storing_has_a_basis.ensures c.args.self.now was c.self.inside.volumes now (incoming_of c.args.taken.now c.args.digest.now c.args.same) ready c.self.view_is
     refl refl c.self.invariant c.requires.fits c.requires.not_full c.requires.digest c.requires.refers c.make_ready.ensures.journal
-    c.make_ready.ensures.book c.in_ok-ready.ensures.ready in
-    let is : c.as_slice-2.result.now ≡ (stored_in ready.stored).head =
-    c.as_slice-2.ensures ∙ sym (ap (λ (s : Stored). s.head) u.ready_is.stored) in
-    let enters : (h : ResponseHead) → IsResponseHeadText (stored_in ready.stored).head h → EntersAs (stored_in ready.stored) h c.record_at-at.result c.in_ok-entry.entry =
-    λ h reads. c.in_ok-entry.ensures h (subst (λ (t : List ℕ). IsResponseHeadText t h) (sym is) reads) in
+    c.make_ready.ensures.book (laws.handed_back c.self.inside.volumes now was.limits.volume_bytes (incoming_of c.args.taken.now c.args.digest.now c.args.same) c.in_ok-ready.ready ready c.in_ok-entered.ensures.same
+    c.in_ok-ready.ensures.ready) in
+    let has = c.in_ok-entered.ensures.entered in
+    let at_is = laws.record_back now c.in_ok-ready.ready ready c.record_at-at.result c.len-number.result c.in_ok-entered.ensures.same c.record_at-at.ensures in
     let many : c.len-number.result ≡ length c.self.inside.spots.items = search rules in
     let count : c.len-number.result ≡ length (captures was.book) = many ∙ c.self.invariant.spots.count in
     let number : c.len-number.result ≡ length (captures (book_of now.held)) =
@@ -405,19 +378,19 @@ returns-in-Ok-clause-stores g c =
       journal = c.commit.new.self.journal;
       book = book_of c.commit.new.self.held;
       table = c.commit.new.table;
-      index = c.enter.new.index;
+      index = c.enter_ready.new.index;
       spots = c.commit.new.spots.items;
       revisits = c.self.inside.revisits + c.revisits_in.result;
     } in
     let receipt : Receipt = record { number = c.len-number.result; same_as = c.args.same } in
     subst (λ (held : Holdings _). Stores g.D.Disk held is c.args.taken.now (Ok receipt)) same
     (laws.stored_stores g.D.Disk c.storing_has_a_basis.ensures was now (incoming_of c.args.taken.now c.args.digest.now c.args.same) ready u c.record_at-at.result c.len-number.result
-    c.record_at-at.ensures number c.in_ok-entry.entry enters (disk_laws g)
-    c.commit.new.self.journal (book_of c.commit.new.self.held) c.commit.new.table c.enter.new.index c.commit.new.spots.items
+    at_is number has.entry has.enters (disk_laws g)
+    c.commit.new.self.journal (book_of c.commit.new.self.held) c.commit.new.table c.enter_ready.new.index c.commit.new.spots.items
     c.commit.ensures.holds c.commit.ensures.measured c.commit.ensures.table c.commit.ensures.spots c.commit.ensures.within c.commit.ensures.placed
     (λ untold. c.commit.ensures.made (subst (λ (l : List Spot). AreHeldWhole (book_of now.held) l) (sym c.reserve_kept.ensures.spots) (u.is.made untold)))
     c.commit.ensures.others
-    (c.self.inside.revisits + c.revisits_in.result) c.in-Ok.ensures.stored c.in_ok-enter.ensures.entered
+    (c.self.inside.revisits + c.revisits_in.result) c.in-Ok.ensures.stored has.is
     c.in-Ok.field-0
     c.in-Ok.ensures.writes
     c.in-Ok.ensures.faults c.in-Ok.ensures.last_len c.in-Ok.ensures.bytes receipt number refl)
@@ -428,8 +401,5 @@ returns-in_err-reserve_kept-clause-unread g c number = memory_since _ number c.f
 pub returns-in_err-ready-clause-unread : goal.returns-in_err-ready-clause-unread
 returns-in_err-ready-clause-unread g c number = memory_since _ number c.from_residual-in_err-ready.result c.from_residual-in_err-ready.ensures.1
 
-pub returns-in_err-entry-clause-unread : goal.returns-in_err-entry-clause-unread
-returns-in_err-entry-clause-unread g c number = memory_since _ number c.from_residual-in_err-entry.result c.from_residual-in_err-entry.ensures.1
-
-pub returns-in_err-enter-clause-unread : goal.returns-in_err-enter-clause-unread
-returns-in_err-enter-clause-unread g c number = memory_since _ number c.from_residual-in_err-enter.result c.from_residual-in_err-enter.ensures.1
+pub returns-in_err-entered-clause-unread : goal.returns-in_err-entered-clause-unread
+returns-in_err-entered-clause-unread g c number = memory_since _ number c.from_residual-in_err-entered.result c.from_residual-in_err-entered.ensures.1
