@@ -9,7 +9,9 @@ use std::fmt::Display;
 use std::fs::{File, OpenOptions};
 use std::os::unix::fs::FileExt;
 use std::{fs, io};
-use system_paths::{is_at, is_link_at, locked, may_write, needed_lock, pass_over_odd_name};
+use system_paths::{
+    check_regular, is_at, is_link_at, locked, may_write, needed_lock, pass_over_odd_name,
+};
 
 /// Where the system's folder `archive` is found, in the folder where the program runs.
 #[derive(Clone, Copy)]
@@ -176,8 +178,9 @@ impl Folder for SystemFolder {
     }
 }
 
-/// Opens a file that is there.
+/// Opens a regular file that is there.
 fn opened(system: &HostRuntime, path: &str, access: Access) -> io::Result<File> {
+    check_regular(system, path)?;
     match access {
         Access::Read => File::open(system, path),
         Access::Update => OpenOptions::new().read(true).write(true).open(system, path),

@@ -7,4 +7,4 @@ mod paths;
 
 pub use entries::pass_over_odd_name;
 pub use locks::{locked, needed_lock};
-pub use paths::{c_path_of, is_at, is_link_at, may_write};
+pub use paths::{c_path_of, check_regular, is_at, is_link_at, may_write};

@@ -25,6 +25,16 @@ fn nothing_there(error: io::Error) -> io::Result<bool> {
     }
 }
 
+/// Fails where something else than a regular file is at a path, as a folder or a pipe. Who opens a pipe waits for its other end, so
+/// it is asked before.
+pub fn check_regular(system: &HostRuntime, path: &str) -> io::Result<()> {
+    if fs::metadata(system, path)?.is_file() {
+        Ok(())
+    } else {
+        Err(io::Error::other("it is no regular file"))
+    }
+}
+
 /// Whether a path leads to an open file or folder: to the same number (the inode's) on the same device. No two that are there
 /// at once have both, and one that is moved keeps them.
 pub fn is_at(system: &HostRuntime, file: &File, path: &str) -> io::Result<bool> {

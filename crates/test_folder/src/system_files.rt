@@ -94,11 +94,27 @@ fn refused_syncs(system: HostRuntime) -> Written {
         Ok(mut folder) => syncs_of_folders(&mut folder),
         Err(_) => written("no folder"),
     };
-    let file = match SystemFolder::held_at(system, "/dev", Lock::Shared) {
-        Ok(mut folder) => sync_of_file(&mut folder, "null"),
+    let file = match SystemFolder::held_at(system, "/proc/self", Lock::Shared) {
+        Ok(mut folder) => sync_of_file(&mut folder, "comm"),
         Err(_) => written("no folder"),
     };
     joined(folders, file.as_str())
+}
+
+/// Whether what has a name in a folder is opened.
+fn opens(system: HostRuntime, path: &str, name: &str) -> bool {
+    match SystemFolder::held_at(system, path, Lock::Shared) {
+        Ok(mut folder) => folder.open(name, Access::Read).is_ok(),
+        Err(_) => false,
+    }
+}
+
+/// Whether a file is opened, and a device and a folder, of which the last has a link.
+fn kinds(system: HostRuntime) -> Written {
+    let file = opens(system, "/proc/self", "comm");
+    let device = opens(system, "/dev", "null");
+    let folder = opens(system, "/proc", "self");
+    written(format_args!("{file} {device} {folder}"))
 }
 
 /// Whether a folder is at its own path, and at that of one that has the same number on another device.
@@ -120,5 +136,6 @@ fn files_are_the_systems(rt: HostRuntime) {
     check(&rt, writable(), "true false");
     check(&rt, links, "true false false");
     check(&rt, places(&rt), "true false");
+    check(&rt, kinds(rt), "true false false");
     check(&rt, passed_over(), "true false false");
 }
