@@ -5,7 +5,7 @@ ghost use Rattle.folder_disk.specs.Counting.{HasNoMore};
 ghost use Rattle.folder_disk.specs.State.{IsCounted, known_of};
 
 use crate::names::FileNames;
-use crate::reasons::number_missing;
+use crate::reasons::{no_further_number, number_missing};
 use disk_model::Kind;
 use folder_model::{Access, Folder, NameList, Names};
 use shown::Shown;
@@ -159,7 +159,7 @@ fn few(past: u64) -> io::Result<u32>
 {
     match u32::try_from(past) {
         Ok(count) => Ok(count),
-        Err(_) => Err(io::Error::from(ErrorKind::StorageFull)),
+        Err(_) => Err(no_further_number()),
     }
 }
 

@@ -8,7 +8,7 @@ use crate::counting::listed;
 use crate::held::Held;
 use crate::names::FileNames;
 use crate::open_files::OpenOne;
-use crate::reasons::{check_in_place, files_of_others, moved, unknown};
+use crate::reasons::{changed, check_in_place, files_of_others, moved, unknown};
 use disk_model::Kind;
 use folder_model::{Access, Folder};
 use std::io;
@@ -37,12 +37,34 @@ impl<F: Folder, N: FileNames> Held<F, N> {
         ensures others { IsTrue F.tells → AreHeld N.name F.name_of F.past self.new }
         ensures apart { AreOthers kind number self.new.files }
         ensures same { IsTrue F.tells → F.past self.new.timed.folder ≡ F.past self.old.timed.folder }
-        ensures rest { self.new ≡ record self.old { timed = record self.old.timed { folder = self.new.timed.folder }; files = self.new.files } }
+        ensures trusted { IsTrue F.tells → self.new.trust ≡ self.old.trust }
+        ensures rest { OnOk result
+            (self.new ≡ record self.old { timed = record self.old.timed { folder = self.new.timed.folder }; files = self.new.files }) }
+        ensures all { self.new
+            ≡ record self.old { timed = record self.old.timed { folder = self.new.timed.folder }; trust = self.new.trust; files = self.new.files } }
     {
         match self.files.take_for_writing(kind, number) {
-            Some(one) => Ok(one),
+            Some(one) => self.as_left(one),
             None => self.opened(kind, number, Access::Update),
         }
+    }
+
+    /// An open file that is as long as this process left it. Of one that isn't, others changed it, and the disk gives up: what it
+    /// would write there may not be found again. A folder that tells its past has no others.
+    fn as_left(&mut self, one: OpenOne<F::File>) -> io::Result<OpenOne<F::File>>
+        requires { IsTrue F.tells → IsOpen N.name F.name_of (F.past self.old.timed.folder) one }
+        ensures this { IfOk result (λ it. it ≡ one) }
+        ensures same { IsTrue F.tells → F.past self.new.timed.folder ≡ F.past self.old.timed.folder }
+        ensures trusted { IsTrue F.tells → self.new.trust ≡ self.old.trust }
+        ensures rest { OnOk result (self.new ≡ record self.old { timed = record self.old.timed { folder = self.new.timed.folder } }) }
+        ensures all { self.new ≡ record self.old { timed = record self.old.timed { folder = self.new.timed.folder }; trust = self.new.trust } }
+    {
+        let len = self.timed.folder.len(&one.file)?;
+        if len == one.len {
+            return Ok(one);
+        }
+        self.trust.gave_up = true;
+        Err(changed())
     }
 
     /// Opens a file, and asks for its length. One that isn't known is another process's, or none.
@@ -55,9 +77,7 @@ impl<F: Folder, N: FileNames> Held<F, N> {
         if self.known(kind) <= number {
             return Err(unknown());
         }
-        check_in_place(&mut self.timed.folder)?;
-        let name = N::name_of(self.alloc, kind, number)?;
-        let file = self.timed.folder.open(name.as_str(), access)?;
+        let file = self.open_file(kind, number, access)?;
         let len = self.timed.folder.len(&file)?;
         Ok(OpenOne {
             kind,
@@ -68,6 +88,18 @@ impl<F: Folder, N: FileNames> Held<F, N> {
         })
     }
 
+    /// Opens a file of the folder, where that is still at its path.
+    fn open_file(&mut self, kind: Kind, number: u32, access: Access) -> io::Result<F::File>
+        ensures named { IsTrue F.tells → IfOk result (λ file. F.name_of file ≡ N.name kind number) }
+        ensures there { IsTrue F.tells → OnOk result (contents_of (F.past self.new.timed.folder) (N.name kind number) ≢ None) }
+        ensures same { IsTrue F.tells → F.past self.new.timed.folder ≡ F.past self.old.timed.folder }
+        ensures rest { self.new ≡ record self.old { timed = record self.old.timed { folder = self.new.timed.folder } } }
+    {
+        check_in_place(&mut self.timed.folder)?;
+        let name = N::name_of(self.alloc, kind, number)?;
+        self.timed.folder.open(name.as_str(), access)
+    }
+
     /// Opens a file that isn't known yet. It was made empty and nothing was written to it: one that has bytes is another
     /// process's.
     pub(crate) fn further_file(&mut self, kind: Kind, number: u32) -> io::Result<F::File>
@@ -76,9 +108,7 @@ impl<F: Folder, N: FileNames> Held<F, N> {
         ensures same { IsTrue F.tells → F.past self.new.timed.folder ≡ F.past self.old.timed.folder }
         ensures rest { self.new ≡ record self.old { timed = record self.old.timed { folder = self.new.timed.folder } } }
     {
-        check_in_place(&mut self.timed.folder)?;
-        let name = N::name_of(self.alloc, kind, number)?;
-        let file = self.timed.folder.open(name.as_str(), Access::Update)?;
+        let file = self.open_file(kind, number, Access::Update)?;
         if self.timed.folder.len(&file)? != 0 {
             return Err(files_of_others());
         }

@@ -12,7 +12,9 @@ use crate::counting::Counts;
 use crate::mending::sync_anew;
 use crate::names::FileNames;
 use crate::open_files::{OpenFiles, OpenOne};
-use crate::reasons::{check_in_place, end_of, inside, is_there_already, stopped, unknown};
+use crate::reasons::{
+    check_in_place, end_of, inside, is_there_already, no_further_number, stopped, unknown,
+};
 use crate::trust::Trust;
 use crate::unopened::Unheld;
 use disk_model::Kind;
@@ -22,8 +24,8 @@ use std::io;
 use std::io::ErrorKind;
 use std::marker::PhantomData;
 
-/// A folder that is held, with how many files of each kind are known. Once a sync failed that can't be mended it has given up,
-/// and makes and syncs nothing more.
+/// A folder that is held, with how many files of each kind are known. Once a sync failed that can't be mended, or others changed
+/// a file, it has given up, and makes, writes and syncs nothing more.
 #[derive(Drop)]
 pub(crate) struct Held<F: Folder, N: FileNames> {
     pub(crate) timed: Timed<F>,
@@ -89,7 +91,7 @@ impl<F: Folder, N: FileNames> Held<F, N> {
         }
         let number = self.known(kind);
         let Some(count) = number.checked_add(1) else {
-            return Err(io::Error::from(ErrorKind::StorageFull));
+            return Err(no_further_number());
         };
         check_in_place(&mut self.timed.folder)?;
         let name = N::name_of(self.alloc, kind, number)?;
@@ -140,6 +142,9 @@ impl<F: Folder, N: FileNames> Held<F, N> {
         ensures writes { WritesAt F.tells N.name kind file at bytes.now (state_of F.past self.old) (state_of F.past self.new) result }
         ensures open { IsTrue F.tells → AreHeld N.name F.name_of F.past self.new }
     {
+        if self.trust.gave_up {
+            return Err(stopped());
+        }
         if self.is_unknown(kind, file) {
             return Err(unknown());
         }
@@ -177,6 +182,9 @@ impl<F: Folder, N: FileNames> Held<F, N> {
         ensures cuts { Cuts F.tells N.name kind file len (state_of F.past self.old) (state_of F.past self.new) result }
         ensures open { IsTrue F.tells → AreHeld N.name F.name_of F.past self.new }
     {
+        if self.trust.gave_up {
+            return Err(stopped());
+        }
         if self.is_unknown(kind, file) {
             return Err(unknown());
         }

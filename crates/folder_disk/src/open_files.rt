@@ -5,7 +5,7 @@ ghost use Rattle.folder_disk.specs.OpenFiles.{IsLeftIn, kept};
 
 use disk_model::Kind;
 
-/// An open file, with its length, so that the folder needn't be asked for it.
+/// An open file, with the length that this process left. The folder is asked for it before a write alone.
 #[derive(Drop)]
 pub(crate) struct OpenOne<T> {
     pub(crate) kind: Kind,

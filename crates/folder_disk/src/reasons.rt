@@ -6,7 +6,7 @@ use folder_model::Folder;
 use std::io;
 use std::io::ErrorKind;
 
-/// After files of others were found, a file that was to be made may be there or not, or a sync failed.
+/// After files of others were found, a file was changed by others, a file that was to be made may be there or not, or a sync failed.
 pub(crate) fn stopped() -> io::Error {
     io::Error::other("an earlier call failed, and what it left on the disk isn't known")
 }
@@ -19,6 +19,11 @@ pub(crate) fn files_of_others() -> io::Error {
 /// Where a path leads to another file or folder than the one that is open.
 pub(crate) fn moved() -> io::Error {
     io::Error::other("it was moved or replaced while it was in use")
+}
+
+/// Where a file that is open isn't as long as this process left it.
+pub(crate) fn changed() -> io::Error {
+    io::Error::other("another process changed it while it was in use")
 }
 
 /// Where a call took some of the bytes that it was to take whole.
@@ -98,6 +103,14 @@ pub(crate) fn number_missing() -> io::Error {
     io::Error::new(
         ErrorKind::InvalidData,
         "a number among its files is missing",
+    )
+}
+
+/// Where a file has the greatest number of all, or one that was to be made would have it.
+pub(crate) fn no_further_number() -> io::Error {
+    io::Error::new(
+        ErrorKind::StorageFull,
+        "no number is left behind the last of its files",
     )
 }
 

@@ -9,12 +9,11 @@ ghost use Rattle.folder_disk.specs.State.{IsKnown, known_of};
 
 use crate::held::Held;
 use crate::names::FileNames;
-use crate::reasons::stopped;
+use crate::reasons::{no_further_number, stopped};
 use crate::trust::Further;
 use disk_model::Kind;
 use folder_model::{Folder, MakeFault, settle_durably};
 use std::io;
-use std::io::ErrorKind;
 
 impl<F: Folder, N: FileNames> Held<F, N> {
     /// Looks whether a file of a kind is there that was to be made. One that is there is synced, with its name, and known from
@@ -70,7 +69,7 @@ impl<F: Folder, N: FileNames> Held<F, N> {
         ensures settled { OnOk result (further_of self.new.trust kind ≡ Absent) }
     {
         let Some(count) = number.checked_add(1) else {
-            return Err(io::Error::from(ErrorKind::StorageFull));
+            return Err(no_further_number());
         };
         match settle_durably(&mut self.timed.folder, file) {
             Ok(()) => {

@@ -32,7 +32,7 @@ pub(crate) enum Further {
 /// was to be made.
 #[derive(Clone, Copy)]
 pub(crate) struct Trust {
-    /// A sync failed and can't be mended, or a file of others has the name of one that was to be made.
+    /// A sync failed and can't be mended, a file of others has the name of one that was to be made, or others changed a file.
     pub(crate) gave_up: bool,
     pub(crate) warc: Option<Written>,
     pub(crate) cdxj: Option<Written>,

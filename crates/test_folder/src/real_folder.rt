@@ -173,6 +173,22 @@ static LATE: Scene = (
     "failed;failed;failed;failed;5;0;",
 );
 
+/// What is answered where somebody wrote to a file that is open: nothing more is written, and what is there is left alone.
+static CHANGED: Scene = (
+    &[
+        Calls(Files(Warc)),
+        Calls(Write(Warc, 0, 0, b"hello")),
+        Puts(FIRST_PATH, "hello, and more than that"),
+        Calls(Write(Warc, 0, 5, b"!")),
+        Calls(Cut(Warc, 0, 5)),
+        Calls(Sync(Warc, 0)),
+        Calls(Files(Warc)),
+        Calls(Read(Warc, 1, 0, b"secon")),
+        Holds(FIRST_PATH, "hello, and more than that"),
+    ],
+    "2;0;0;failed;failed;failed;failed;0;0;",
+);
+
 /// What is answered where a file was put there by hand.
 static PUT: Scene = (
     &[
@@ -218,6 +234,7 @@ fn touches_no_file_of_another<R: Abort>(abort: &R, rt: HostRuntime) {
     plays(abort, rt, &mut waiting, &TAKEN);
     drop(other);
     plays(abort, rt, &mut waiting, &LATE);
+    plays(abort, rt, &mut disk_as(rt, Lock::Alone), &CHANGED);
     plays(abort, rt, &mut disk_as(rt, Lock::Alone), &PUT);
 }
 

@@ -18,8 +18,10 @@ use std::rc::Rc;
 pub(crate) struct Plan {
     /// The names in the folder.
     pub(crate) names: [&'static str; 3],
-    /// The length of each file.
+    /// The length of each file that is there.
     pub(crate) len: u64,
+    /// The length that another process gives a file as soon as it is made.
+    pub(crate) theirs: u64,
     /// The most bytes that one read or write takes.
     pub(crate) most: usize,
     /// Which calls fail, counted from 0, and how.
@@ -41,6 +43,7 @@ pub(crate) const NEVER: (usize, ErrorKind) = (usize::MAX, ErrorKind::Other);
 pub(crate) const NO_VOLUME: Plan = Plan {
     names: ["", "", ""],
     len: 0,
+    theirs: 0,
     most: usize::MAX,
     fails: [NEVER, NEVER],
     moved_from: usize::MAX,
@@ -56,12 +59,13 @@ pub(crate) const TWO_VOLUMES: Plan = Plan {
     ..NO_VOLUME
 };
 
-/// What was called so far, how many calls that were, and the name of a file that came to be there.
+/// What was called so far, how many calls that were, and the name of a file that came to be there, with its length.
 #[derive(Clone, Copy)]
 struct Log {
     calls: Written,
     made: usize,
     came: Written,
+    len: u64,
 }
 
 /// Writes each call down, behind the calls before. Those that share a log write into it in turn.
@@ -78,6 +82,7 @@ impl Recorder {
             calls: Written::new(),
             made: 0,
             came: Written::new(),
+            len: 0,
         });
         Ok(Recorder {
             plan,
@@ -130,7 +135,26 @@ impl Recorder {
     fn came(&mut self, name: &str) {
         let mut log = self.log.get();
         log.came = written(name);
+        log.len = self.plan.theirs;
         self.log.set(log);
+    }
+
+    /// Notes that a file reaches so far, where it came to be there.
+    fn reaches(&mut self, name: &str, end: u64) {
+        let mut log = self.log.get();
+        if log.came.as_str() == name {
+            log.len = log.len.max(end);
+            self.log.set(log);
+        }
+    }
+
+    /// How long a file is. Those that were there before stay as long as they were, whatever is written to them.
+    fn len_of(&self, name: &str) -> u64 {
+        let log = self.log.get();
+        if log.came.as_str() == name {
+            return log.len;
+        }
+        self.plan.len
     }
 
     /// Fails where no file of this name is there.
@@ -275,7 +299,7 @@ impl Folder for RecordedFolder {
     }
 
     fn len(&mut self, file: &Written) -> io::Result<u64> {
-        let len = self.recorder.plan.len;
+        let len = self.recorder.len_of(file.as_str());
         self.recorder.answer("length of", file.as_str(), len)
     }
 
@@ -287,6 +311,8 @@ impl Folder for RecordedFolder {
 
     fn write_at(&mut self, file: &Written, piece: &[u8], at: u64) -> io::Result<usize> {
         let n = piece.len().min(self.recorder.plan.most);
+        self.recorder
+            .reaches(file.as_str(), at.saturating_add(n as u64));
         self.recorder
             .answer(at_place("write", n, at).as_str(), file.as_str(), n)
     }

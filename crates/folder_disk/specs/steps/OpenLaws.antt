@@ -1,6 +1,6 @@
 -- Laws of files that stay open.
 use Rattle.std.proofs.Common.{◌≡◌, ◌≢◌, ◌⊎◌, ◌<◌, ◌≤◌, ◌^◌, ◌+◌, ℕ, Bool, true, false, List, [], ◌∷◌, length, take, refl, sym, ap, ◌∙◌, subst, inl, inr, ⊎_elim, arith, length-take}
-use Rattle.std.specs.Prelude.{if◌then◌else◌, Option, Some, None, IfSome, max}
+use Rattle.std.specs.Prelude.{if◌then◌else◌, Option, Some, None, IfSome, Result, Ok, Err, IfOk, max}
 use Rattle.std.specs.Option.{option_map, unwrap_or}
 use Rattle.disk_model.specs.Image.{written}
 use Rattle.disk_model.specs.declared.kind.Kind.{Kind}
@@ -17,6 +17,11 @@ use Rattle.folder_disk.specs.declared.open_files.OpenOne.{OpenOne}
 use Rattle.folder_disk.specs.declared.open_files.OpenFiles.{OpenFiles}
 
 -- ---- what is taken out and put back
+
+-- what holds of a file holds of the one that a call passes on
+pub passed_on : {T E : Type 0} (P : T → Type 0) (result : Result T E) (one : T) → IfOk result (λ it. it ≡ one) → P one → IfOk result P
+passed_on P (Ok it) one is holds = subst P (sym is) holds
+passed_on P (Err e) one is holds = tt
 
 module _ {T : Type 0} (P : OpenOne T → Type 0) where
   -- what was in a place

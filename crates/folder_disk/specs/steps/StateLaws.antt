@@ -103,24 +103,28 @@ module _ (tells : Bool) (name : Kind → ℕ → List ℕ) (old new : State) whe
   }
 
 -- the same disk as far as its folder tells
-module _ (tells : Bool) (name : Kind → ℕ → List ℕ) (s : State) (past : FolderPast) (same : IsTrue tells → past ≡ s.past) where
-  known_same : (IsTrue tells → IsKnown name s) → IsTrue tells → IsKnown name (record s { past = past })
-  known_same known told = subst (λ (p : FolderPast). IsKnown name (record s { past = p })) (sym (same told)) (known told)
+module _ (tells : Bool) (name : Kind → ℕ → List ℕ) (s now : State) (same : IsTrue tells → now ≡ s) (times : now.times ≡ s.times) where
+  known_same : (IsTrue tells → IsKnown name s) → IsTrue tells → IsKnown name now
+  known_same known told = subst (λ (n : State). IsKnown name n) (sym (same told)) (known told)
 
-  reading_same : IsTrue tells → reading name (record s { past = past }) ≡ reading name s
-  reading_same told = ap (λ (p : FolderPast). reading name (record s { past = p })) (same told)
+  reading_same : IsTrue tells → reading name now ≡ reading name s
+  reading_same told = ap (λ (n : State). reading name n) (same told)
 
-  images_same : (image : Image) → images tells name (record s { past = past }) image → images tells name s image
-  images_same image left = subst (λ (p : FolderPast). images tells name (record s { past = p }) image) (same left.0) left
+  images_same : (image : Image) → images tells name now image → images tells name s image
+  images_same image left = subst (λ (n : State). images tells name n image) (same left.0) left
 
   same_elapses : (target : Image → Type 0)
-      → Elapses (moment_of s.times) (moment_of s.times) (images_since tells name s) (images_since tells name (record s { past = past })) target
+      → Elapses (moment_of s.times) (moment_of now.times) (images_since tells name s) (images_since tells name now) target
   same_elapses target = record {
-    later = omega arith;
-    by_one = omega arith;
-    nothing_else = λ t image le left. inl (subst (λ (p : FolderPast). images_since tells name (record s { past = p }) t image) (same left.0) left);
-    keeps = λ t image le left. subst (λ (p : FolderPast). images_since tells name (record s { past = p }) t image) (sym (same left.0)) left;
+    later = omega (arith, ap moment_of times);
+    by_one = omega (arith, ap moment_of times);
+    nothing_else = λ t image le left. inl (subst (λ (n : State). images_since tells name n t image) (same left.0) left);
+    keeps = λ t image le left. subst (λ (n : State). images_since tells name n t image) (sym (same left.0)) left;
   }
+
+-- a folder that was only looked at
+at_past : (tells : Bool) (s : State) (past : FolderPast) → (IsTrue tells → past ≡ s.past) → IsTrue tells → record s { past = past } ≡ s
+at_past tells s past same told = λ i. record s { past = same told i }
 
 -- ---- calls
 
@@ -481,46 +485,46 @@ module _ (tells : Bool) (name : Kind → ℕ → List ℕ) (apart : NamesApart n
 
 -- ---- calls that weren't begun
 
-pub write_not_begun : {E : Type 0} (tells : Bool) (name : Kind → ℕ → List ℕ) (kind : Kind) (file at : ℕ) (bytes : List ℕ) (s : State) (past : FolderPast) (e : E)
-    → (IsTrue tells → past ≡ s.past) → (IsTrue tells → IsKnown name s) → WritesAt tells name kind file at bytes s (record s { past = past }) (Err e)
-write_not_begun tells name kind file at bytes s past e same known = record {
-  known = known_same tells name s past same known;
+pub write_not_begun : {E : Type 0} (tells : Bool) (name : Kind → ℕ → List ℕ) (kind : Kind) (file at : ℕ) (bytes : List ℕ) (s now : State) (e : E)
+    → (IsTrue tells → now ≡ s) → now.times ≡ s.times → (IsTrue tells → IsKnown name s) → WritesAt tells name kind file at bytes s now (Err e)
+write_not_begun tells name kind file at bytes s now e same times known = record {
+  known = known_same tells name s now same times known;
   written = λ told. tt;
   partial = λ told.
-      subst (OnFile kind file (Torn at (length bytes)) (reading name s)) (sym (reading_same tells name s past same told))
+      subst (OnFile kind file (Torn at (length bytes)) (reading name s)) (sym (reading_same tells name s now same times told))
       (on_file_none kind file (Torn at (length bytes)) (reading name s) (torn_none at (length bytes) (file_of (reading name s) kind file)));
   crash = λ image left. (
     image,
-    images_same tells name s past same image left,
+    images_same tells name s now same times image left,
     on_file_none kind file (Torn at (length bytes)) image (torn_none at (length bytes) (file_of image kind file)),
   );
-  time = same_elapses tells name s past same (images tells name (record s { past = past }));
+  time = same_elapses tells name s now same times (images tells name now);
 }
 
-pub cut_not_begun : {E : Type 0} (tells : Bool) (name : Kind → ℕ → List ℕ) (kind : Kind) (file len : ℕ) (s : State) (past : FolderPast) (e : E)
-    → (IsTrue tells → past ≡ s.past) → (IsTrue tells → IsKnown name s) → Cuts tells name kind file len s (record s { past = past }) (Err e)
-cut_not_begun tells name kind file len s past e same known = record {
-  known = known_same tells name s past same known;
+pub cut_not_begun : {E : Type 0} (tells : Bool) (name : Kind → ℕ → List ℕ) (kind : Kind) (file len : ℕ) (s now : State) (e : E)
+    → (IsTrue tells → now ≡ s) → now.times ≡ s.times → (IsTrue tells → IsKnown name s) → Cuts tells name kind file len s now (Err e)
+cut_not_begun tells name kind file len s now e same times known = record {
+  known = known_same tells name s now same times known;
   cut = λ told. tt;
   partial = λ told.
-      subst (OnFile kind file (Cut len) (reading name s)) (sym (reading_same tells name s past same told))
+      subst (OnFile kind file (Cut len) (reading name s)) (sym (reading_same tells name s now same times told))
       (on_file_none kind file (Cut len) (reading name s) (cut_none len (file_of (reading name s) kind file)));
   crash = λ image left. (
     image,
-    images_same tells name s past same image left,
+    images_same tells name s now same times image left,
     on_file_none kind file (Cut len) image (cut_none len (file_of image kind file)),
   );
-  time = same_elapses tells name s past same (images tells name (record s { past = past }));
+  time = same_elapses tells name s now same times (images tells name now);
 }
 
-pub sync_not_begun : {E : Type 0} (tells : Bool) (name : Kind → ℕ → List ℕ) (kind : Kind) (file : ℕ) (s : State) (past : FolderPast) (e : E)
-    → (IsTrue tells → past ≡ s.past) → (IsTrue tells → IsKnown name s) → Syncs tells name kind file s (record s { past = past }) (Err e)
-sync_not_begun tells name kind file s past e same known = record {
-  known = known_same tells name s past same known;
+pub sync_not_begun : {E : Type 0} (tells : Bool) (name : Kind → ℕ → List ℕ) (kind : Kind) (file : ℕ) (s now : State) (e : E)
+    → (IsTrue tells → now ≡ s) → now.times ≡ s.times → (IsTrue tells → IsKnown name s) → Syncs tells name kind file s now (Err e)
+sync_not_begun tells name kind file s now e same times known = record {
+  known = known_same tells name s now same times known;
   durable = tt;
-  same = reading_same tells name s past same;
-  crash = images_same tells name s past same;
-  time = same_elapses tells name s past same (images tells name (record s { past = past }));
+  same = reading_same tells name s now same times;
+  crash = images_same tells name s now same times;
+  time = same_elapses tells name s now same times (images tells name now);
 }
 
 -- what holds of each failure holds of an answer that is one
@@ -532,10 +536,10 @@ at_error P (Err e) is each = each e
 pub looked : (tells : Bool) (name : Kind → ℕ → List ℕ) (s : State) (past : FolderPast) → (IsTrue tells → past ≡ s.past) → (IsTrue tells → IsKnown name s)
     → Looks tells name s (record s { past = past })
 looked tells name s past same known = record {
-  known = known_same tells name s past same known;
-  same = reading_same tells name s past same;
-  crash = images_same tells name s past same;
-  time = same_elapses tells name s past same (images tells name (record s { past = past }));
+  known = known_same tells name s (record s { past = past }) (at_past tells s past same) refl known;
+  same = reading_same tells name s (record s { past = past }) (at_past tells s past same) refl;
+  crash = images_same tells name s (record s { past = past }) (at_past tells s past same) refl;
+  time = same_elapses tells name s (record s { past = past }) (at_past tells s past same) refl (images tells name (record s { past = past }));
 }
 
 -- the bytes of a file in the folder are those of the reading
@@ -623,14 +627,14 @@ create_behind {E} tells name kind old new past result same made = record {
   number = made.number;
   created = λ told. subst (λ (p : FolderPast). OnOk result (reading name (record new { past = p }) ≡ with_new (reading name old) kind)) (sym (same told)) (made.created told);
   partial = λ told. subst (λ (p : FolderPast). OnErr result (MayCreate kind (file_count (reading name old) kind) (reading name old) (reading name (record new { past = p })))) (sym (same told)) (made.partial told);
-  crash = λ image left. made.crash image (images_same tells name new past same image left);
+  crash = λ image left. made.crash image (images_same tells name new (record new { past = past }) (at_past tells new past same) refl image left);
   durable = leaves result made.durable;
   time = time_behind tells name old new past (Stepped (MayCreate kind (file_count (reading name old) kind)) (images tells name old)) same made.time;
 }
   where
     leaves : (r : Result ℕ E) → IfOk r (λ file. Leaves (images tells name new) (HasFile kind file []))
         → IfOk r (λ file. Leaves (images tells name (record new { past = past })) (HasFile kind file []))
-    leaves (Ok file) holds = λ image left. holds image (images_same tells name new past same image left)
+    leaves (Ok file) holds = λ image left. holds image (images_same tells name new (record new { past = past }) (at_past tells new past same) refl image left)
     leaves (Err e) holds = tt
 
 pub sync_behind : {E : Type 0} (tells : Bool) (name : Kind → ℕ → List ℕ) (kind : Kind) (file : ℕ) (old new : State) (past : FolderPast) (result : Result ⊤ E)
@@ -639,13 +643,13 @@ sync_behind {E} tells name kind file old new past result same was_synced = recor
   known = λ told. subst (λ (p : FolderPast). IsKnown name (record new { past = p })) (sym (same told)) (was_synced.known told);
   durable = leaves result was_synced.durable;
   same = λ told. subst (λ (p : FolderPast). reading name (record new { past = p }) ≡ reading name old) (sym (same told)) (was_synced.same told);
-  crash = λ image left. was_synced.crash image (images_same tells name new past same image left);
+  crash = λ image left. was_synced.crash image (images_same tells name new (record new { past = past }) (at_past tells new past same) refl image left);
   time = time_behind tells name old new past (images tells name (record new { past = past })) same (target_behind was_synced.time);
 }
   where
     leaves : (r : Result ⊤ E) → OnOk r (Leaves (images tells name new) (HasFile kind file (file_of (reading name old) kind file)))
         → OnOk r (Leaves (images tells name (record new { past = past })) (HasFile kind file (file_of (reading name old) kind file)))
-    leaves (Ok x) holds = λ image left. holds image (images_same tells name new past same image left)
+    leaves (Ok x) holds = λ image left. holds image (images_same tells name new (record new { past = past }) (at_past tells new past same) refl image left)
     leaves (Err e) holds = tt
 
     target_behind : Elapses (moment_of old.times) (moment_of new.times) (images_since tells name old) (images_since tells name new) (images tells name new)
@@ -679,9 +683,9 @@ looked_by tells name old new known same within moment time = record {
 pub looks_behind : (tells : Bool) (name : Kind → ℕ → List ℕ) (old new : State) (past : FolderPast) → (IsTrue tells → past ≡ new.past) → Looks tells name old new
     → Looks tells name old (record new { past = past })
 looks_behind tells name old new past same looks = record {
-  known = known_same tells name new past same looks.known;
-  same = λ told. reading_same tells name new past same told ∙ looks.same told;
-  crash = λ image left. looks.crash image (images_same tells name new past same image left);
+  known = known_same tells name new (record new { past = past }) (at_past tells new past same) refl looks.known;
+  same = λ told. reading_same tells name new (record new { past = past }) (at_past tells new past same) refl told ∙ looks.same told;
+  crash = λ image left. looks.crash image (images_same tells name new (record new { past = past }) (at_past tells new past same) refl image left);
   time = time_behind tells name old new past (images tells name (record new { past = past })) same (record {
     later = looks.time.later;
     by_one = looks.time.by_one;
@@ -698,8 +702,8 @@ pub looks_before : (tells : Bool) (name : Kind → ℕ → List ℕ) (old new : 
     → Looks tells name old new
 looks_before tells name old new past same looks = record {
   known = looks.known;
-  same = λ told. looks.same told ∙ reading_same tells name old past same told;
-  crash = λ image left. images_same tells name old past same image (looks.crash image left);
+  same = λ told. looks.same told ∙ reading_same tells name old (record old { past = past }) (at_past tells old past same) refl told;
+  crash = λ image left. images_same tells name old (record old { past = past }) (at_past tells old past same) refl image (looks.crash image left);
   time = record {
     later = looks.time.later;
     by_one = looks.time.by_one;
@@ -717,13 +721,13 @@ looks_before tells name old new past same looks = record {
 pub create_not_begun : {E : Type 0} (tells : Bool) (name : Kind → ℕ → List ℕ) (kind : Kind) (s : State) (past : FolderPast) (e : E)
     → (IsTrue tells → past ≡ s.past) → (IsTrue tells → IsKnown name s) → Creates tells name kind s (record s { past = past }) (Err e)
 create_not_begun tells name kind s past e same known = record {
-  known = known_same tells name s past same known;
+  known = known_same tells name s (record s { past = past }) (at_past tells s past same) refl known;
   number = λ told. tt;
   created = λ told. tt;
-  partial = λ told. inl (reading_same tells name s past same told);
-  crash = λ image left. (image, images_same tells name s past same image left, inl refl);
+  partial = λ told. inl (reading_same tells name s (record s { past = past }) (at_past tells s past same) refl told);
+  crash = λ image left. (image, images_same tells name s (record s { past = past }) (at_past tells s past same) refl image left, inl refl);
   durable = tt;
-  time = same_elapses tells name s past same (Stepped (MayCreate kind (file_count (reading name s) kind)) (images tells name s));
+  time = same_elapses tells name s (record s { past = past }) (at_past tells s past same) refl (Stepped (MayCreate kind (file_count (reading name s) kind)) (images tells name s));
 }
 
 -- where a file that was to be made isn't there nothing was done

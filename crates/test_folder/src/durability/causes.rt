@@ -11,8 +11,20 @@ const TELLING: Plan = Plan {
     ..TWO_VOLUMES
 };
 
+/// A folder with the file of the greatest number.
+const GREATEST_NUMBER: Plan = Plan {
+    names: ["vol-4294967295.warc", "", ""],
+    ..TELLING
+};
+
+/// A folder with the file before that alone.
+const LAST_NUMBER: Plan = Plan {
+    names: ["vol-4294967294.warc", "", ""],
+    ..TELLING
+};
+
 /// The cause of each fault is told.
-static TOLD: [Row; 12] = [
+static TOLD: [Row; 15] = [
     (
         Plan {
             fails: [(0, ErrorKind::WouldBlock), NEVER],
@@ -59,6 +71,7 @@ static TOLD: [Row; 12] = [
     // A file that was to be made and has bytes is another process's.
     (
         Plan {
+            theirs: 3,
             fails: [(16, ErrorKind::StorageFull), NEVER],
             ..TELLING
         },
@@ -117,6 +130,36 @@ static TOLD: [Row; 12] = [
         Lock::Alone,
         &[FILES, SYNC_0],
         &["archive/vol-000000.warc: sync: no storage space;", "1"],
+    ),
+    // A file that is as long as it was before it was cut was changed by others.
+    (
+        TELLING,
+        Lock::Alone,
+        &[FILES, CUT_0, WRITE_0, WRITE_0],
+        &[
+            "archive/vol-000000.warc: write: another process changed it while it was in use;",
+            "archive/vol-000000.warc: write: an earlier call failed, and what it left on the disk isn't known;",
+            "2",
+        ],
+    ),
+    (
+        GREATEST_NUMBER,
+        Lock::Shared,
+        &[FILES],
+        &[
+            "archive: count files: no number is left behind the last of its files;",
+            "1",
+        ],
+    ),
+    // A file of the greatest number but one is the last that may be there.
+    (
+        LAST_NUMBER,
+        Lock::Shared,
+        &[FILES],
+        &[
+            "archive: count files: a number among its files is missing;",
+            "1",
+        ],
     ),
     (
         TELLING,

@@ -25,7 +25,10 @@ const FOLDER_MADE: &str =
 const MADE: &str =
     "look for folder;create vol-000000.warc;sync vol-000000.warc;sync folder;sync around;look for vol-000000.warc;";
 
-/// What writes it: calls 12 to 14, and no fault but the one.
+/// What asks whether it is as long as it was left: call 12.
+const LENGTH: &str = "length of vol-000000.warc;";
+
+/// What writes it: calls 13 to 15, and no fault but the one.
 const STORED: &str =
     "write 3 at 0 of vol-000000.warc;sync vol-000000.warc;look for vol-000000.warc;1";
 
@@ -49,6 +52,7 @@ static DURABLE: [Row; 1] = [(
         NOT_FOUND,
         FOLDER_MADE,
         MADE,
+        LENGTH,
         "write 3 at 0 of vol-000000.warc;sync vol-000000.warc;look for vol-000000.warc;",
         "look for folder;create vol-000001.warc;sync vol-000001.warc;sync folder;sync around;look for vol-000001.warc;",
         "0",
@@ -60,13 +64,13 @@ type Failing = (usize, &'static [&'static str]);
 
 /// Each such call. Where the folder couldn't be opened nothing more is asked of it, and where the file that was made isn't synced yet, or its
 /// name may not be on the disk, nothing is written to it or synced.
-static FAILING: [Failing; 15] = [
+static FAILING: [Failing; 16] = [
     (0, &["lock archive;4"]),
     (1, &["may write archive;4"]),
     (2, &["list names;4"]),
     (3, &["sync folder;4"]),
     (4, &["sync around;4"]),
-    (5, &["look for folder;", MADE, STORED]),
+    (5, &["look for folder;", MADE, LENGTH, STORED]),
     (6, &["look for folder;3"]),
     (7, &["create vol-000000.warc;list names;3"]),
     (8, &["sync vol-000000.warc;list names;3"]),
@@ -76,13 +80,21 @@ static FAILING: [Failing; 15] = [
     (
         12,
         &[
+            LENGTH,
+            "look for folder;open to read vol-000000.warc;length of vol-000000.warc;",
+            "sync vol-000000.warc;look for vol-000000.warc;1",
+        ],
+    ),
+    (
+        13,
+        &[
             ONE_WRITE,
             "look for folder;open to read vol-000000.warc;length of vol-000000.warc;",
             "sync vol-000000.warc;look for vol-000000.warc;1",
         ],
     ),
-    (13, &["sync vol-000000.warc;1"]),
-    (14, &["look for vol-000000.warc;1"]),
+    (14, &["sync vol-000000.warc;1"]),
+    (15, &["look for vol-000000.warc;1"]),
 ];
 
 /// A file that was to be made and may be there is looked for by the next count, and synced before anything is written to it.
@@ -147,9 +159,10 @@ static SOUGHT: [Row; 5] = [
             "4",
         ],
     ),
-    // One that has bytes is another process's, as each file of this folder has three. It isn't synced, and is looked for again.
+    // One that has bytes is another process's. It isn't synced, and is looked for again.
     (
         Plan {
+            theirs: 3,
             from: 16,
             fails: [(16, ErrorKind::StorageFull), NEVER],
             ..TWO_VOLUMES

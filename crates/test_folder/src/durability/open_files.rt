@@ -1,7 +1,7 @@
 //! What is asked of open files, and how others are noticed.
 use super::rows::{
-    CREATE, FILES, LEN_0, MOVES_AT_4, ONE_WRITE, READ, READ_0, REOPENED, Row, SYNC_0, SYNC_2,
-    WRITE_0, WRITE_2, check_rows,
+    CREATE, CUT_0, FILES, LEN_0, MOVES_AT_4, ONE_WRITE, READ, READ_0, REOPENED, Row, SYNC_0,
+    SYNC_2, WRITE_0, WRITE_2, check_rows,
 };
 use crate::disk_steps::Step;
 use crate::recorded_folders::{NEVER, Plan, TWO_VOLUMES};
@@ -60,7 +60,7 @@ static OPEN: [Row; 13] = [
             OPENED,
             "look for folder;open to write vol-000001.warc;length of vol-000001.warc;write 3 at 0 of vol-000001.warc;sync vol-000001.warc;look for vol-000001.warc;sync vol-000001.warc;look for vol-000001.warc;",
             READ,
-            "read 2 at 1 of vol-000001.warc;cut to 1 vol-000001.warc;",
+            "read 2 at 1 of vol-000001.warc;length of vol-000001.warc;cut to 1 vol-000001.warc;",
             "1",
         ],
     ),
@@ -105,8 +105,8 @@ static OPEN: [Row; 13] = [
     // is cut off.
     (
         Plan {
-            from: 21,
-            fails: [(21, ErrorKind::StorageFull), NEVER],
+            from: 22,
+            fails: [(22, ErrorKind::StorageFull), NEVER],
             ..TWO_VOLUMES
         },
         Lock::Alone,
@@ -177,7 +177,7 @@ static OPEN: [Row; 13] = [
             ONE_WRITE,
             "read 2 at 1 of vol-000000.warc;",
             THIRD_MADE,
-            "write 3 at 0 of vol-000002.warc;sync vol-000002.warc;look for vol-000002.warc;",
+            "length of vol-000002.warc;write 3 at 0 of vol-000002.warc;sync vol-000002.warc;look for vol-000002.warc;",
             "look for folder;open to write vol-000001.warc;length of vol-000001.warc;write 3 at 0 of vol-000001.warc;",
             "0",
         ],
@@ -234,7 +234,49 @@ static OPEN: [Row; 13] = [
     ),
 ];
 
+/// Where a file that is open isn't as long as it was left, others changed it. From then on nothing is made, written or synced in the
+/// folder, and what is there is read.
+static CHANGED: [Row; 3] = [
+    // It is shorter: this folder's files stay as long as they were.
+    (
+        Plan {
+            from: 17,
+            ..ONE_BYTE
+        },
+        Lock::Alone,
+        &[
+            FILES, WRITE_0, WRITE_0, WRITE_1, CUT_1, SYNC_1, FILES, CREATE, LEN_0,
+        ],
+        &[
+            ONE_WRITE,
+            "length of vol-000000.warc;look for folder;open to read vol-000000.warc;length of vol-000000.warc;",
+            "6",
+        ],
+    ),
+    // It is longer,
+    (
+        Plan {
+            from: 17,
+            ..TWO_VOLUMES
+        },
+        Lock::Alone,
+        &[FILES, CUT_0, WRITE_0, SYNC_0],
+        &["cut to 1 vol-000000.warc;length of vol-000000.warc;", "2"],
+    ),
+    // and isn't cut once more.
+    (
+        Plan {
+            from: 17,
+            ..TWO_VOLUMES
+        },
+        Lock::Alone,
+        &[FILES, CUT_0, CUT_0, SYNC_0],
+        &["cut to 1 vol-000000.warc;length of vol-000000.warc;", "2"],
+    ),
+];
+
 #[test]
 fn keeps_files_open_and_notices_others(rt: HostRuntime) {
     check_rows(&rt, rt.alloc(), &OPEN);
+    check_rows(&rt, rt.alloc(), &CHANGED);
 }

@@ -20,31 +20,28 @@ pub returns-in_err-one-clause-cuts : goal.returns-in_err-one-clause-cuts
 returns-in_err-one-clause-cuts g c =
     let tells = g.F.Folder.tells in
     let name = g.N.FileNames.name in
-    let name_of = g.F.Folder.name_of in
     let past_of = g.F.Folder.past in
     let old : State = state_of past_of c.args.self.now in
-    let rest = c.to_write.ensures.rest in
-    let past : FolderPast = past_of c.to_write.new.self.timed.folder in
-    let went : state_of past_of c.to_write.new.self ≡ record old { past = past } = λ i. record (state_of past_of (rest i)) { past = past } in
-    subst (λ (s : State). Cuts {E = Error} tells name c.args.kind c.args.file c.args.len old s c.from_residual.result) (sym went)
-    (at_error (λ r. Cuts {E = Error} tells name c.args.kind c.args.file c.args.len old (record old { past = past }) r)
+    let all = c.to_write.ensures.all in
+    let now : State = state_of past_of c.to_write.new.self in
+    let same : IsTrue tells → now ≡ old =
+    λ told. (λ i. state_of past_of (all i)) ∙ (λ i. record old { past = c.to_write.ensures.same told i; trust = c.to_write.ensures.trusted told i }) in
+    at_error (λ r. Cuts {E = Error} tells name c.args.kind c.args.file c.args.len old now r)
     c.from_residual.result c.from_residual.ensures.0
-    (λ e. cut_not_begun {E = Error} tells name c.args.kind c.args.file c.args.len old past e c.to_write.ensures.same c.requires.known))
+    (λ e. cut_not_begun {E = Error} tells name c.args.kind c.args.file c.args.len old now e same (λ i. times_of (all i).timed) c.requires.known)
 
 pub returns-in_err-inside-clause-cuts : goal.returns-in_err-inside-clause-cuts
 returns-in_err-inside-clause-cuts g c =
     let tells = g.F.Folder.tells in
     let name = g.N.FileNames.name in
-    let name_of = g.F.Folder.name_of in
     let past_of = g.F.Folder.past in
     let old : State = state_of past_of c.args.self.now in
-    let rest = c.to_write.ensures.rest in
-    let past : FolderPast = past_of c.to_write.new.self.timed.folder in
-    let went : state_of past_of c.to_write.new.self ≡ record old { past = past } = λ i. record (state_of past_of (rest i)) { past = past } in
-    subst (λ (s : State). Cuts {E = Error} tells name c.args.kind c.args.file c.args.len old s c.from_residual-in_err-inside.result) (sym went)
-    (at_error (λ r. Cuts {E = Error} tells name c.args.kind c.args.file c.args.len old (record old { past = past }) r)
+    let rest = c.in_ok-one.ensures.rest in
+    let now : State = state_of past_of c.to_write.new.self in
+    let same : IsTrue tells → now ≡ old = λ told. (λ i. state_of past_of (rest i)) ∙ (λ i. record old { past = c.to_write.ensures.same told i }) in
+    at_error (λ r. Cuts {E = Error} tells name c.args.kind c.args.file c.args.len old now r)
     c.from_residual-in_err-inside.result c.from_residual-in_err-inside.ensures.0
-    (λ e. cut_not_begun {E = Error} tells name c.args.kind c.args.file c.args.len old past e c.to_write.ensures.same c.requires.known))
+    (λ e. cut_not_begun {E = Error} tells name c.args.kind c.args.file c.args.len old now e same (λ i. times_of (rest i).timed) c.requires.known)
 
 pub returns-in-Ok-clause-cuts : goal.returns-in-Ok-clause-cuts
 returns-in-Ok-clause-cuts g c =
@@ -53,7 +50,7 @@ returns-in-Ok-clause-cuts g c =
     let name_of = g.F.Folder.name_of in
     let past_of = g.F.Folder.past in
     let old : State = state_of past_of c.args.self.now in
-    let rest = c.to_write.ensures.rest in
+    let rest = c.in_ok-one.ensures.rest in
     let past : FolderPast = past_of c.set_len.new.self in
     let times : times_of c.go_on.new.self ≡ goes_on old.times past = c.go_on.ensures.times ∙ (λ i. goes_on (times_of (rest i).timed) past) in
     let trust : Trust = c.cut.new.self in
@@ -91,7 +88,7 @@ returns-in-Err-clause-cuts g c =
     let name_of = g.F.Folder.name_of in
     let past_of = g.F.Folder.past in
     let old : State = state_of past_of c.args.self.now in
-    let rest = c.to_write.ensures.rest in
+    let rest = c.in_ok-one.ensures.rest in
     let past : FolderPast = past_of c.set_len.new.self in
     let times : times_of c.go_on-in-Err.new.self ≡ goes_on old.times past = c.go_on-in-Err.ensures.times ∙ (λ i. goes_on (times_of (rest i).timed) past) in
     let trust : Trust = c.cut_part.new.self in
@@ -131,7 +128,7 @@ returns-in-Ok-clause-open g c = λ told.
     let name_of = g.F.Folder.name_of in
     let past_of = g.F.Folder.past in
     let old : State = state_of past_of c.args.self.now in
-    let rest = c.to_write.ensures.rest in
+    let rest = c.in_ok-one.ensures.rest in
     let past : FolderPast = past_of c.set_len.new.self in
     let before : FolderPast = past_of c.to_write.new.self.timed.folder in
     let is = c.in_ok-one.ensures.this in
@@ -153,4 +150,9 @@ returns-in-Err-clause-open g c = λ told.
 pub returns-then-is_unknown-clause-cuts : goal.returns-then-is_unknown-clause-cuts
 returns-then-is_unknown-clause-cuts g c =
     let old : State = state_of g.F.Folder.past c.args.self.now in
-    cut_not_begun {E = Error} g.F.Folder.tells g.N.FileNames.name c.args.kind c.args.file c.args.len old old.past _ (λ told. refl) c.requires.known
+    cut_not_begun {E = Error} g.F.Folder.tells g.N.FileNames.name c.args.kind c.args.file c.args.len old old _ (λ told. refl) refl c.requires.known
+
+pub returns-then-self-clause-cuts : goal.returns-then-self-clause-cuts
+returns-then-self-clause-cuts g c =
+    let old : State = state_of g.F.Folder.past c.args.self.now in
+    cut_not_begun {E = Error} g.F.Folder.tells g.N.FileNames.name c.args.kind c.args.file c.args.len old old c.stopped.result (λ told. refl) refl c.requires.known

@@ -5,8 +5,8 @@ use Rattle.folder_disk.proofs.held.Held.opened.Goals as goal
 
 pub returns-clause-open : goal.returns-clause-open
 returns-clause-open g c = λ told.
-    let named = c.in_ok-file.ensures.named told ∙ c.as_str.ensures.value ∙ c.in_ok-name.ensures in
-    let before : FolderPast = g.F.Folder.past c.open.new.self in
+    let named = c.in_ok-file.ensures.named told in
+    let before : FolderPast = g.F.Folder.past c.open_file.new.self.timed.folder in
     record {
       fits = c.ranges.number.fits;
       named = named;

@@ -22,16 +22,15 @@ pub returns-in_err-one-clause-syncs : goal.returns-in_err-one-clause-syncs
 returns-in_err-one-clause-syncs g c =
     let tells = g.F.Folder.tells in
     let name = g.N.FileNames.name in
-    let name_of = g.F.Folder.name_of in
     let past_of = g.F.Folder.past in
     let old : State = state_of past_of c.args.self.now in
-    let rest = c.to_write.ensures.rest in
-    let past : FolderPast = past_of c.to_write.new.self.timed.folder in
-    let went : state_of past_of c.to_write.new.self ≡ record old { past = past } = λ i. record (state_of past_of (rest i)) { past = past } in
-    subst (λ (s : State). Syncs {E = Error} tells name c.args.kind c.args.file old s c.from_residual.result) (sym went)
-    (at_error (λ r. Syncs {E = Error} tells name c.args.kind c.args.file old (record old { past = past }) r)
+    let all = c.to_write.ensures.all in
+    let now : State = state_of past_of c.to_write.new.self in
+    let same : IsTrue tells → now ≡ old =
+    λ told. (λ i. state_of past_of (all i)) ∙ (λ i. record old { past = c.to_write.ensures.same told i; trust = c.to_write.ensures.trusted told i }) in
+    at_error (λ r. Syncs {E = Error} tells name c.args.kind c.args.file old now r)
     c.from_residual.result c.from_residual.ensures.0
-    (λ e. sync_not_begun {E = Error} tells name c.args.kind c.args.file old past e c.to_write.ensures.same c.requires.known))
+    (λ e. sync_not_begun {E = Error} tells name c.args.kind c.args.file old now e same (λ i. times_of (all i).timed) c.requires.known)
 
 pub sync_anew-requires-clause-inside : goal.sync_anew-requires-clause-inside
 sync_anew-requires-clause-inside g c = λ told.
@@ -40,7 +39,7 @@ sync_anew-requires-clause-inside g c = λ told.
     let name_of = g.F.Folder.name_of in
     let past_of = g.F.Folder.past in
     let old : State = state_of past_of c.args.self.now in
-    let rest = c.to_write.ensures.rest in
+    let rest = c.in_ok-one.ensures.rest in
     let before : FolderPast = past_of c.to_write.new.self.timed.folder in
     let is = c.in_ok-one.ensures.this in
     let named : (told : IsTrue tells) → name_of c.in_ok-one.one.file ≡ name c.args.kind c.args.file =
@@ -57,7 +56,7 @@ sync_anew-requires-clause-end g c = λ told.
     let name_of = g.F.Folder.name_of in
     let past_of = g.F.Folder.past in
     let old : State = state_of past_of c.args.self.now in
-    let rest = c.to_write.ensures.rest in
+    let rest = c.in_ok-one.ensures.rest in
     let before : FolderPast = past_of c.to_write.new.self.timed.folder in
     let is = c.in_ok-one.ensures.this in
     let named : (told : IsTrue tells) → name_of c.in_ok-one.one.file ≡ name c.args.kind c.args.file =
@@ -72,7 +71,7 @@ keep_at_name-requires-clause-others g c = λ told.
     let name_of = g.F.Folder.name_of in
     let past_of = g.F.Folder.past in
     let old : State = state_of past_of c.args.self.now in
-    let rest = c.to_write.ensures.rest in
+    let rest = c.in_ok-one.ensures.rest in
     let before : FolderPast = past_of c.to_write.new.self.timed.folder in
     let past : FolderPast = past_of c.sync_anew.new.folder in
     let is = c.in_ok-one.ensures.this in
@@ -89,7 +88,7 @@ keep_at_name-requires-clause-open g c = λ told.
     let name_of = g.F.Folder.name_of in
     let past_of = g.F.Folder.past in
     let old : State = state_of past_of c.args.self.now in
-    let rest = c.to_write.ensures.rest in
+    let rest = c.in_ok-one.ensures.rest in
     let before : FolderPast = past_of c.to_write.new.self.timed.folder in
     let past : FolderPast = past_of c.sync_anew.new.folder in
     let is = c.in_ok-one.ensures.this in
@@ -106,7 +105,7 @@ returns-in-Ok-clause-syncs g c =
     let name_of = g.F.Folder.name_of in
     let past_of = g.F.Folder.past in
     let old : State = state_of past_of c.args.self.now in
-    let rest = c.to_write.ensures.rest in
+    let rest = c.in_ok-one.ensures.rest in
     let before : FolderPast = past_of c.to_write.new.self.timed.folder in
     let past : FolderPast = past_of c.sync_anew.new.folder in
     let is = c.in_ok-one.ensures.this in
@@ -142,7 +141,7 @@ returns-in-Err-clause-syncs g c =
     let name_of = g.F.Folder.name_of in
     let past_of = g.F.Folder.past in
     let old : State = state_of past_of c.args.self.now in
-    let rest = c.to_write.ensures.rest in
+    let rest = c.in_ok-one.ensures.rest in
     let before : FolderPast = past_of c.to_write.new.self.timed.folder in
     let past : FolderPast = past_of c.sync_anew.new.folder in
     let is = c.in_ok-one.ensures.this in

@@ -1,5 +1,5 @@
 -- The file was synced, or that failed, or nothing was done.
-use Rattle.std.proofs.Common.{◌≡◌, Err, IsTrue, true, false, sym, ap, ◌∙◌, subst}
+use Rattle.std.proofs.Common.{◌≡◌, Err, IsTrue, true, false, sym, ap, ◌∙◌, subst, refl}
 use Rattle.std.specs.declared.io.Error.{Error}
 use Rattle.folder_model.specs.File.{Synced}
 use Rattle.folder_model.specs.Folder.{FolderPast, did_to}
@@ -29,7 +29,7 @@ returns-in_err-one-clause-syncs g c =
     subst (λ (s : State). Syncs {E = Error} tells name c.args.kind c.args.file old s c.from_residual.result) (sym went)
     (at_error (λ r. Syncs {E = Error} tells name c.args.kind c.args.file old (record old { past = past }) r)
     c.from_residual.result c.from_residual.ensures.0
-    (λ e. sync_not_begun {E = Error} tells name c.args.kind c.args.file old past e c.to_read.ensures.same c.requires.known))
+    (λ e. sync_not_begun {E = Error} tells name c.args.kind c.args.file old (record old { past = past }) e (λ told i. record old { past = c.to_read.ensures.same told i }) refl c.requires.known))
 
 pub keep_at_name-requires-clause-others : goal.keep_at_name-requires-clause-others
 keep_at_name-requires-clause-others g c = λ told.

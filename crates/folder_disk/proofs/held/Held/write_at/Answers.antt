@@ -21,31 +21,28 @@ pub returns-in_err-one-clause-writes : goal.returns-in_err-one-clause-writes
 returns-in_err-one-clause-writes g c =
     let tells = g.F.Folder.tells in
     let name = g.N.FileNames.name in
-    let name_of = g.F.Folder.name_of in
     let past_of = g.F.Folder.past in
     let old : State = state_of past_of c.args.self.now in
-    let rest = c.to_write.ensures.rest in
-    let past : FolderPast = past_of c.to_write.new.self.timed.folder in
-    let went : state_of past_of c.to_write.new.self ≡ record old { past = past } = λ i. record (state_of past_of (rest i)) { past = past } in
-    subst (λ (s : State). WritesAt {E = Error} tells name c.args.kind c.args.file c.args.at c.args.bytes.now old s c.from_residual.result) (sym went)
-    (at_error (λ r. WritesAt {E = Error} tells name c.args.kind c.args.file c.args.at c.args.bytes.now old (record old { past = past }) r)
+    let all = c.to_write.ensures.all in
+    let now : State = state_of past_of c.to_write.new.self in
+    let same : IsTrue tells → now ≡ old =
+    λ told. (λ i. state_of past_of (all i)) ∙ (λ i. record old { past = c.to_write.ensures.same told i; trust = c.to_write.ensures.trusted told i }) in
+    at_error (λ r. WritesAt {E = Error} tells name c.args.kind c.args.file c.args.at c.args.bytes.now old now r)
     c.from_residual.result c.from_residual.ensures.0
-    (λ e. write_not_begun {E = Error} tells name c.args.kind c.args.file c.args.at c.args.bytes.now old past e c.to_write.ensures.same c.requires.known))
+    (λ e. write_not_begun {E = Error} tells name c.args.kind c.args.file c.args.at c.args.bytes.now old now e same (λ i. times_of (all i).timed) c.requires.known)
 
 pub returns-in_err-end-clause-writes : goal.returns-in_err-end-clause-writes
 returns-in_err-end-clause-writes g c =
     let tells = g.F.Folder.tells in
     let name = g.N.FileNames.name in
-    let name_of = g.F.Folder.name_of in
     let past_of = g.F.Folder.past in
     let old : State = state_of past_of c.args.self.now in
-    let rest = c.to_write.ensures.rest in
-    let past : FolderPast = past_of c.to_write.new.self.timed.folder in
-    let went : state_of past_of c.to_write.new.self ≡ record old { past = past } = λ i. record (state_of past_of (rest i)) { past = past } in
-    subst (λ (s : State). WritesAt {E = Error} tells name c.args.kind c.args.file c.args.at c.args.bytes.now old s c.from_residual-in_err-end.result) (sym went)
-    (at_error (λ r. WritesAt {E = Error} tells name c.args.kind c.args.file c.args.at c.args.bytes.now old (record old { past = past }) r)
+    let rest = c.in_ok-one.ensures.rest in
+    let now : State = state_of past_of c.to_write.new.self in
+    let same : IsTrue tells → now ≡ old = λ told. (λ i. state_of past_of (rest i)) ∙ (λ i. record old { past = c.to_write.ensures.same told i }) in
+    at_error (λ r. WritesAt {E = Error} tells name c.args.kind c.args.file c.args.at c.args.bytes.now old now r)
     c.from_residual-in_err-end.result c.from_residual-in_err-end.ensures.0
-    (λ e. write_not_begun {E = Error} tells name c.args.kind c.args.file c.args.at c.args.bytes.now old past e c.to_write.ensures.same c.requires.known))
+    (λ e. write_not_begun {E = Error} tells name c.args.kind c.args.file c.args.at c.args.bytes.now old now e same (λ i. times_of (rest i).timed) c.requires.known)
 
 pub returns-in-Ok-clause-writes : goal.returns-in-Ok-clause-writes
 returns-in-Ok-clause-writes g c =
@@ -54,7 +51,7 @@ returns-in-Ok-clause-writes g c =
     let name_of = g.F.Folder.name_of in
     let past_of = g.F.Folder.past in
     let old : State = state_of past_of c.args.self.now in
-    let rest = c.to_write.ensures.rest in
+    let rest = c.in_ok-one.ensures.rest in
     let before : FolderPast = past_of c.to_write.new.self.timed.folder in
     let past : FolderPast = past_of c.write_whole.new.folder in
     let is = c.in_ok-one.ensures.this in
@@ -96,7 +93,7 @@ returns-in-Err-Torn-clause-writes g c =
     let name_of = g.F.Folder.name_of in
     let past_of = g.F.Folder.past in
     let old : State = state_of past_of c.args.self.now in
-    let rest = c.to_write.ensures.rest in
+    let rest = c.in_ok-one.ensures.rest in
     let before : FolderPast = past_of c.to_write.new.self.timed.folder in
     let past : FolderPast = past_of c.write_whole.new.folder in
     let is = c.in_ok-one.ensures.this in
@@ -138,7 +135,7 @@ returns-clause-writes g c =
     let name_of = g.F.Folder.name_of in
     let past_of = g.F.Folder.past in
     let old : State = state_of past_of c.args.self.now in
-    let rest = c.to_write.ensures.rest in
+    let rest = c.in_ok-one.ensures.rest in
     let before : FolderPast = past_of c.to_write.new.self.timed.folder in
     let past : FolderPast = past_of c.write_whole.new.folder in
     let is = c.in_ok-one.ensures.this in
@@ -198,4 +195,9 @@ returns-clause-open g c = λ told.
 pub returns-then-is_unknown-clause-writes : goal.returns-then-is_unknown-clause-writes
 returns-then-is_unknown-clause-writes g c =
     let old : State = state_of g.F.Folder.past c.args.self.now in
-    write_not_begun {E = Error} g.F.Folder.tells g.N.FileNames.name c.args.kind c.args.file c.args.at c.args.bytes.now old old.past _ (λ told. refl) c.requires.known
+    write_not_begun {E = Error} g.F.Folder.tells g.N.FileNames.name c.args.kind c.args.file c.args.at c.args.bytes.now old old _ (λ told. refl) refl c.requires.known
+
+pub returns-then-self-clause-writes : goal.returns-then-self-clause-writes
+returns-then-self-clause-writes g c =
+    let old : State = state_of g.F.Folder.past c.args.self.now in
+    write_not_begun {E = Error} g.F.Folder.tells g.N.FileNames.name c.args.kind c.args.file c.args.at c.args.bytes.now old old c.stopped.result (λ told. refl) refl c.requires.known

@@ -9,9 +9,9 @@ use Rattle.folder_disk.proofs.standing.Standing.write_at.Goals as goal
 pub returns-in-Absent-clause-writes : goal.returns-in-Absent-clause-writes
 returns-in-Absent-clause-writes g c =
     let s : State = state_at g.S.Folder.Folder.past c.args.self.now in
-    write_not_begun {E = Error} g.S.Folder.Folder.tells g.N.FileNames.name c.args.kind c.args.file c.args.at c.args.bytes.now s s.past c.unknown.result (λ told. refl) c.requires.known
+    write_not_begun {E = Error} g.S.Folder.Folder.tells g.N.FileNames.name c.args.kind c.args.file c.args.at c.args.bytes.now s s c.unknown.result (λ told. refl) refl c.requires.known
 
 pub returns-in-Refused-clause-writes : goal.returns-in-Refused-clause-writes
 returns-in-Refused-clause-writes g c =
     let s : State = state_at g.S.Folder.Folder.past c.args.self.now in
-    write_not_begun {E = Error} g.S.Folder.Folder.tells g.N.FileNames.name c.args.kind c.args.file c.args.at c.args.bytes.now s s.past c.stopped.result (λ told. refl) c.requires.known
+    write_not_begun {E = Error} g.S.Folder.Folder.tells g.N.FileNames.name c.args.kind c.args.file c.args.at c.args.bytes.now s s c.stopped.result (λ told. refl) refl c.requires.known
