@@ -12,6 +12,7 @@ ghost use Rattle.http_head.specs.declared.head.RequestHead.{RequestHead as TheHe
 ghost use Rattle.http_wire.specs.Heads.{HoldsHead};
 ghost use Rattle.http_wire.specs.Messages.{IsRequest};
 ghost use Rattle.http_wire.specs.Reading.{Failed as HasFailed, Whole as IsWhole, ComesBeforeTheEnd, HasFault};
+ghost use Rattle.http_wire.specs.RequestReading.{new_request};
 ghost use Rattle.outside.specs.Gate.{heard_of};
 ghost use Rattle.session.specs.steps.Reads.{AwaitsRest, Client, ComesFaulty, HasTaken, IsBehind, IsWellAsked, LooksAt, Owes, Reads, ReadsBody, ReadsNone, RefusesAim};
 ghost use Rattle.session.specs.Requests as spec;
@@ -54,7 +55,8 @@ pub fn read_request<L: Link>(
     ensures broke { result ≡ Err Served.ClientBroke → Rose (L.faults client.old) (L.faults client.new) }
 {
     await_request(client, window);
-    read_next(alloc, client, window, site)
+    let mut reader = RequestReader::new(alloc);
+    read_next(alloc, client, window, site, &mut reader)
 }
 
 /// Says to a client's link that nothing but a next request is awaited. Where bytes of one have come, with what was before it, it
@@ -68,14 +70,16 @@ fn await_request<L: Link>(client: &mut L, window: &Window)
     }
 }
 
-/// Reads the next request, which may have begun.
+/// Reads the next request, which may have begun, with a reader that has read nothing yet.
 fn read_next<L: Link>(
     alloc: Global,
     client: &mut L,
     window: &mut Window,
     site: &Site,
+    reader: &mut RequestReader,
 ) -> Result<Asked, Served>
-    requires { L.faults client.old ≡ 0 }
+    requires no_fault { L.faults client.old ≡ 0 }
+    requires empty { reader.old ≡ new_request }
     ensures reads { IsTrue L.tells → Reads site.now
         (record { heard = heard_of (L.traffic client.old) (L.faults client.old); pending = window.old })
         (record { heard = heard_of (L.traffic client.new) (L.faults client.new); pending = window.new }) result }
@@ -84,20 +88,19 @@ fn read_next<L: Link>(
     ensures later { L.faults client.old ≤ L.faults client.new }
     ensures broke { result ≡ Err Served.ClientBroke → Rose (L.faults client.old) (L.faults client.new) }
 {
-    let mut reader = RequestReader::new(alloc);
-    match receive_request(alloc, client, window, &mut reader) {
-        Came::Head => read_on(alloc, client, window, site, &mut reader),
+    match receive_request(alloc, client, window, reader) {
+        Came::Head => read_on(alloc, client, window, site, reader),
         Came::Whole => unreachable!(),
         Came::Ended => Err(Served::Done),
         Came::EndedInside => {
-            holds_its_head(&reader);
+            holds_its_head(reader);
             Err(Served::ClientEndedEarly)
         }
         Came::Broken => {
-            holds_its_head(&reader);
+            holds_its_head(reader);
             Err(Served::ClientBroke)
         }
-        Came::Refused(fault) => Err(turn_back(alloc, client, site, &reader, fault)),
+        Came::Refused(fault) => Err(turn_back(alloc, client, site, reader, fault)),
     }
 }
 
