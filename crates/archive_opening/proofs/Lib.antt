@@ -1,4 +1,5 @@
 pub mod BeginLaws
+pub mod BesideLaws
 pub mod BorneOutLaws
 pub mod CandidateLaws
 pub mod CaptureLaws
