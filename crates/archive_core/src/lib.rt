@@ -3,6 +3,7 @@
 
 mod archive;
 mod comparing;
+mod entry_order;
 mod finding;
 mod index;
 mod knowing;
