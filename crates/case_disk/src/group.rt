@@ -4,7 +4,7 @@ ghost use Rattle.warc_journal.specs.Extents.{warc_files};
 ghost use Rattle.warc_journal.specs.Journals.{IsInStep, disk_of};
 ghost use Rattle.volume_scan.specs.Unread.{file_at};
 
-use crate::opening::{group_told, put_fault};
+use crate::opening::{group_told, put_fault, put_text};
 use crate::outcome::Outcome;
 use capture::Memory;
 use case_language::TextWords;
@@ -76,7 +76,7 @@ fn put_read<D: Disk>(
                 at: place.at,
                 len: group.len,
             };
-            outcome.put_found(alloc, group_told(alloc, place, group.number)?.as_str())
+            put_text(alloc, outcome, group_told(alloc, place, group.number))
         }
         Err(fault) => put_fault(alloc, outcome, fault),
     }

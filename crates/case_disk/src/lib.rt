@@ -7,6 +7,7 @@ mod calls;
 mod checkpoints;
 mod deed;
 mod disk;
+mod ends;
 mod group;
 mod looked;
 mod opening;

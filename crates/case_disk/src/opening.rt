@@ -1,11 +1,12 @@
 //! What is found where the volumes of a disk are opened, and what is found again behind steps of their journal and a stop.
-ghost use Rattle.std.specs.Prelude.{◌≡◌, ◌≤◌, ◌^◌, IfOk, IsTrue, length};
+ghost use Rattle.std.specs.Prelude.{◌≡◌, ◌<◌, ◌≤◌, ◌^◌, ◌-◌, IfOk, IfSome, IsTrue, length};
 ghost use Rattle.capture.specs.Tails.{IsCommitted};
 ghost use Rattle.warc_text.specs.StandsFor.{commit_byte};
 ghost use Rattle.warc_journal.specs.Journals.{IsInStep};
-ghost use Rattle.volume_scan.specs.Scannings.{IsInPlace, position_of};
+ghost use Rattle.volume_scan.specs.Scannings.{IsInPlace, captures_of, position_of};
 ghost use Rattle.volume_scan.specs.declared.position.Stage.TheVariants.{Done};
 
+use crate::ends::{after, kept};
 use crate::group::put_group;
 use crate::outcome::Outcome;
 use capture::Memory;
@@ -49,17 +50,12 @@ pub fn outcome_of(
 ) -> Result<Option<Outcome>, Memory> {
     let mut outcome = Outcome::new(alloc);
     if steps.is_empty() {
-        tell(alloc, &mut outcome, disk, skip)?;
-        return Ok(Some(outcome));
+        let done = tell(alloc, &mut outcome, disk, skip);
+        return after(done, Some(outcome));
     }
-    let disk = worked_on(alloc, &mut outcome, disk, steps, skip)?;
-    match disk.stop(stop) {
-        Ok(left) => {
-            tell(alloc, &mut outcome, left, skip)?;
-            Ok(Some(outcome))
-        }
-        Err(_) => Ok(None),
-    }
+    let worked = worked_on(alloc, &mut outcome, disk, steps, skip);
+    let done = tell_stopped(alloc, &mut outcome, worked, stop, skip);
+    kept(outcome, done)
 }
 
 /// What the steps say, and the files that a stop by this choice leaves behind them. `None` where the disk could not be
@@ -71,13 +67,35 @@ pub fn files_behind(
     stop: u32,
 ) -> Result<Option<Outcome>, Memory> {
     let mut outcome = Outcome::new(alloc);
-    let disk = worked_on(alloc, &mut outcome, disk, steps, None)?;
-    match disk.stop(stop) {
-        Ok(mut left) => {
-            outcome.put_files(alloc, &mut left)?;
-            Ok(Some(outcome))
-        }
-        Err(_) => Ok(None),
+    let worked = worked_on(alloc, &mut outcome, disk, steps, None);
+    let done = put_stopped(alloc, &mut outcome, worked, stop);
+    kept(outcome, done)
+}
+
+/// Tells what an opening finds behind a stop by this choice. Whether the disk could be stopped.
+fn tell_stopped(
+    alloc: Global,
+    outcome: &mut Outcome,
+    disk: Result<MemoryDisk, Memory>,
+    stop: u32,
+    skip: Option<u32>,
+) -> Result<bool, Memory> {
+    match disk?.stop(stop) {
+        Ok(left) => after(tell(alloc, outcome, left, skip), true),
+        Err(_) => Ok(false),
+    }
+}
+
+/// Tells the files that a stop by this choice leaves. Whether the disk could be stopped.
+fn put_stopped(
+    alloc: Global,
+    outcome: &mut Outcome,
+    disk: Result<MemoryDisk, Memory>,
+    stop: u32,
+) -> Result<bool, Memory> {
+    match disk?.stop(stop) {
+        Ok(mut left) => after(outcome.put_files(alloc, &mut left), true),
+        Err(_) => Ok(false),
     }
 }
 
@@ -88,14 +106,38 @@ fn tell<D: Disk + Drop>(
     disk: D,
     skip: Option<u32>,
 ) -> Result<(), Memory> {
-    let Ok(mut scanning) = Scanning::start(alloc, disk) else {
-        return outcome.put_found(alloc, "disk fault");
-    };
-    if let Some(captures) = skip {
-        skip_first(alloc, outcome, &mut scanning, captures)?;
+    match Scanning::start(alloc, disk) {
+        Ok(mut scanning) => {
+            let read = read_all(alloc, outcome, &mut scanning, skip);
+            without_answer(read)
+        }
+        Err(_) => outcome.put_found(alloc, "disk fault"),
     }
-    read_on(alloc, outcome, &mut scanning)?;
-    Ok(())
+}
+
+/// What was done, whatever it answered.
+fn without_answer(done: Result<bool, Memory>) -> Result<(), Memory> {
+    match done {
+        Ok(_) => Ok(()),
+        Err(Memory) => Err(Memory),
+    }
+}
+
+/// Tells each thing that is found, to the end or to the first fault. Whether the end was met.
+fn read_all<D: Disk>(
+    alloc: Global,
+    outcome: &mut Outcome,
+    scanning: &mut Scanning<D>,
+    skip: Option<u32>,
+) -> Result<bool, Memory>
+    requires { IsInPlace D.Disk scanning.old }
+    ensures in_place { IsInPlace D.Disk scanning.new }
+    ensures done { IfOk result (λ done. IsTrue done → (position_of scanning.new).stage ≡ Done) }
+{
+    if let Some(captures) = skip {
+        skip_first(alloc, outcome, scanning, captures)?;
+    }
+    read_on(alloc, outcome, scanning)
 }
 
 /// Tells the first thing that is found. Where a volume begins and a further file follows, the rest of it is skipped as so
@@ -120,7 +162,7 @@ fn skip_first<D: Disk>(
             {
                 scanning.skip(captures);
             }
-            put_found(alloc, outcome, &found)
+            put_found(alloc, outcome, found)
         }
         Err(fault) => put_fault(alloc, outcome, fault),
     }
@@ -138,16 +180,29 @@ fn worked_on<D: Disk + Drop>(
         Ok(scanning) => scanning,
         Err((_, disk)) => return Ok(disk),
     };
+    match read_silently(alloc, &mut scanning, skip) {
+        Ok(true) => {
+            let mut journal = scanning.finish();
+            let done = take_steps(alloc, outcome, &mut journal, steps);
+            after(done, journal.into_disk())
+        }
+        Ok(false) => Ok(scanning.into_disk()),
+        Err(Memory) => Err(Memory),
+    }
+}
+
+/// Reads each thing that is found, and tells nothing. Whether the end was met.
+fn read_silently<D: Disk>(
+    alloc: Global,
+    scanning: &mut Scanning<D>,
+    skip: Option<u32>,
+) -> Result<bool, Memory>
+    requires { IsInPlace D.Disk scanning.old }
+    ensures in_place { IsInPlace D.Disk scanning.new }
+    ensures done { IfOk result (λ done. IsTrue done → (position_of scanning.new).stage ≡ Done) }
+{
     let mut found = Outcome::new(alloc);
-    if let Some(captures) = skip {
-        skip_first(alloc, &mut found, &mut scanning, captures)?;
-    }
-    if !read_on(alloc, &mut found, &mut scanning)? {
-        return Ok(scanning.into_disk());
-    }
-    let mut journal = scanning.finish();
-    take_steps(alloc, outcome, &mut journal, steps)?;
-    Ok(journal.into_disk())
+    read_all(alloc, &mut found, scanning, skip)
 }
 
 /// Does the steps, and tells of each that was done whether the journal refused it, or which group it read.
@@ -202,32 +257,65 @@ fn read_on<D: Disk>(
         if scanning.captures() >= MOST {
             return Ok(false);
         }
-        match scanning.step(alloc) {
-            Ok(Found::End) => {
-                outcome.put_found(alloc, "end")?;
-                return Ok(true);
-            }
-            Ok(found) => put_found(alloc, outcome, &found)?,
-            Err(fault) => {
-                put_fault(alloc, outcome, fault)?;
-                return Ok(false);
-            }
+        match read_next(alloc, outcome, scanning)? {
+            Some(done) => return Ok(done),
+            None => (),
         }
     }
     Ok(false)
 }
 
+/// Tells the next thing that is found. Behind the last one it says whether that was the end.
+fn read_next<D: Disk>(
+    alloc: Global,
+    outcome: &mut Outcome,
+    scanning: &mut Scanning<D>,
+) -> Result<Option<bool>, Memory>
+    requires in_place { IsInPlace D.Disk scanning.old }
+    requires fewer { captures_of scanning.old < 2 ^ 32 - 1 }
+    ensures in_place { IsInPlace D.Disk scanning.new }
+    ensures done { IfOk result (λ last. IfSome last (λ done. IsTrue done → (position_of scanning.new).stage ≡ Done)) }
+{
+    match scanning.step(alloc) {
+        Ok(Found::End) => {
+            outcome.put_found(alloc, "end")?;
+            Ok(Some(true))
+        }
+        Ok(found) => {
+            put_found(alloc, outcome, found)?;
+            Ok(None)
+        }
+        Err(fault) => {
+            put_fault(alloc, outcome, fault)?;
+            Ok(Some(false))
+        }
+    }
+}
+
 /// Tells what was found.
-fn put_found(alloc: Global, outcome: &mut Outcome, found: &Found) -> Result<(), Memory> {
-    let text = match found {
+fn put_found(alloc: Global, outcome: &mut Outcome, found: Found) -> Result<(), Memory> {
+    put_text(alloc, outcome, found_text(alloc, &found))
+}
+
+fn found_text(alloc: Global, found: &Found) -> Result<String, Memory> {
+    match found {
         Found::Info {
             volume,
             namespace,
             born,
-        } => format!(in alloc; "volume {volume} {namespace} {born}")?,
-        Found::Group { place, read } => group_told(alloc, *place, read.group.number)?,
-        Found::End => String::from_str(alloc, "end")?,
-    };
+        } => Ok(format!(in alloc; "volume {volume} {namespace} {born}")?),
+        Found::Group { place, read } => group_told(alloc, *place, read.group.number),
+        Found::End => Ok(String::from_str(alloc, "end")?),
+    }
+}
+
+/// Tells a text.
+pub fn put_text(
+    alloc: Global,
+    outcome: &mut Outcome,
+    text: Result<String, Memory>,
+) -> Result<(), Memory> {
+    let text = text?;
     outcome.put_found(alloc, text.as_str())
 }
 
@@ -244,12 +332,15 @@ pub fn group_told(alloc: Global, place: Place, number: u32) -> Result<String, Me
 pub fn put_fault(alloc: Global, outcome: &mut Outcome, fault: ScanFault) -> Result<(), Memory> {
     match fault {
         ScanFault::Damaged { file, place } => {
-            let text = format!(in alloc; "damaged {file} {place}")?;
-            outcome.put_found(alloc, text.as_str())
+            put_text(alloc, outcome, damage_text(alloc, file, place))
         }
         ScanFault::DiskFault => outcome.put_found(alloc, "disk fault"),
         ScanFault::Memory => Err(Memory),
     }
+}
+
+fn damage_text(alloc: Global, file: u32, place: u64) -> Result<String, Memory> {
+    Ok(format!(in alloc; "damaged {file} {place}")?)
 }
 
 /// Does a step of the journal, where it may be done, and says whether the journal took it.
