@@ -96,33 +96,50 @@ fn serve_all<S: Shelf>(alloc: Global, shelf: &mut S, count: u32, seed: u64) -> R
         } else {
             count
         };
-        serve_load(alloc, shelf, seed, from, to, &site)?;
+        let requests = client(alloc, from, to)?.into_vec();
+        let mut member = member_for(alloc, seed, from, to)?;
+        serve_load(alloc, shelf, &site, requests, &mut member)?;
         from = to;
     }
     Ok(())
 }
 
-/// Serves the exchanges of a load from one number up to another over one connection.
+/// Serves the requests of one connection.
 fn serve_load<S: Shelf>(
     alloc: Global,
     shelf: &mut S,
+    site: &Site,
+    requests: Vec<u8>,
+    member: &mut (MemoryDialer, MemoryClock),
+) -> Result<(), Memory> {
+    let mut client = MemoryLink::new(alloc, requests, Vec::new(alloc));
+    let served = serve(
+        alloc,
+        shelf,
+        &mut client,
+        &mut member.0,
+        &mut member.1,
+        site,
+    );
+    let Served::Done = served else {
+        return Err(Memory);
+    };
+    Ok(())
+}
+
+/// A dialer to the origins of exchanges, and a clock with their dates.
+fn member_for(
+    alloc: Global,
     seed: u64,
     from: u32,
     to: u32,
-    site: &Site,
-) -> Result<(), Memory> {
-    let requests = client(alloc, from, to)?.into_vec();
-    let mut client = MemoryLink::new(alloc, requests, Vec::new(alloc));
+) -> Result<(MemoryDialer, MemoryClock), Memory> {
+    let dates = dates(alloc, from, to)?;
     let links = origins(alloc, seed, from, to)?;
-    let mut dialer = MemoryDialer::new(alloc, links, Vec::new(alloc));
-    let mut clock = MemoryClock::new(dates(alloc, from, to)?);
-    match serve(alloc, shelf, &mut client, &mut dialer, &mut clock, site) {
-        Served::Done => Ok(()),
-        Served::ClientBroke => Err(Memory),
-        Served::ClientEndedEarly => Err(Memory),
-        Served::ClientRefused(_) => Err(Memory),
-        Served::WantOfMemory => Err(Memory),
-    }
+    Ok((
+        MemoryDialer::new(alloc, links, Vec::new(alloc)),
+        MemoryClock::new(dates),
+    ))
 }
 
 /// The links to the origins of exchanges.
