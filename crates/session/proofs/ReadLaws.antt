@@ -32,12 +32,13 @@ use Rattle.http_wire.specs.Reading.{Standing, Open, Failed, EndsInside}
 use Rattle.http_wire.specs.Reading.{IsUndecided as WireUndecided, LacksHead as WireLacksHead}
 use Rattle.outside.specs.declared.gate.Heard.{Heard}
 use Rattle.session.specs.steps.Reads.{Client, HasTaken, HasRead, AwaitsRest, ReadsNone, NoMore, Breaking, Refusing, GivingUp, Owes, ComesFaulty, IsBehind, IsWellAsked, LooksAt, ReadsBody, RefusesAim}
-use Rattle.session.specs.Requests.{IsAimed, IsAimedNowhere, IsInside, IsInterim, IsRefused, IsUndecided, answers_head, continue_text, interim_of, refusal_of, waits_for_answer}
+use Rattle.session.specs.Requests.{IsAimed, IsAimedNowhere, IsInside, IsInterim, IsRefused, IsUndecided, answers_head, continue_text, interim_of, refusal_of}
 use Rattle.session.specs.steps.Wire.{EndsRefusal, Says, Tries, Writes}
 use Rattle.session.specs.declared.reading.Asked.{Asked}
 use Rattle.session.specs.declared.served.Served.{Served}
 use Rattle.session.specs.declared.served.Served.TheVariants.{Done, ClientBroke, ClientEndedEarly, WantOfMemory}
 use Rattle.session.proofs.SayLaws.{says_first, says_same}
+use Rattle.session.specs.steps.Heads.{waits_for_answer}
 
 -- ---- fronts
 

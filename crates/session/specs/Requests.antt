@@ -51,31 +51,26 @@ abbrev pub is_persistent : Version → Bool
 is_persistent Http10 = false
 is_persistent Http11 = true
 
--- the client waits for an answer before it sends the body (RFC 9110, section 10.1.1)
-abbrev pub is_expectation : NamedValue → Bool
-is_expectation field = is_named (codes "expect") field && bytes_eq (lowered field.1) (codes "100-continue")
-
--- a head asks to be told that its body is awaited
-abbrev pub waits_for_answer : RequestHead → Bool
-waits_for_answer head =
-    tells_body (told_by_request head) && is_persistent head.version && list_any is_expectation (map named_value head.fields)
-
 -- the answer that asks for the body (RFC 9110, section 15.2.1)
 unfoldable pub continue_text : List ℕ
 continue_text = codes "HTTP/1.1 100 Continue\r\n\r\n"
 
--- what is written before the body of a request with this head is read: that answer, where the head goes somewhere and asks for it
+-- What is written before the body of a request with this head is read: that answer, where the head goes somewhere, tells of a body, and a field
+-- `Expect: 100-continue` says that the client waits for it (RFC 9110, section 10.1.1); else nothing.
 abbrev pub interim_of : Site → RequestHead → List ℕ
-interim_of site head = if is_ok (aim_of site head.method head.target) && waits_for_answer head then continue_text else []
+interim_of site head =
+    if is_ok (aim_of site head.method head.target)
+    && (tells_body (told_by_request head) && is_persistent head.version
+    && list_any (λ (field : NamedValue). is_named (codes "expect") field && bytes_eq (lowered field.1) (codes "100-continue")) (map named_value head.fields))
+    then continue_text else []
 
--- the field is a Connection that lists `close`, in whatever case (RFC 9112, section 9.6)
-abbrev pub lists_close : NamedValue → Bool
-lists_close field = is_named connection field && list_any (λ member. bytes_eq (lowered member) (codes "close")) (members field.1)
-
--- the connection closes after a request with this head, behind so many others: by its version, by what its fields say, or by its number
+-- the connection closes after a request with this head, behind so many others: by its version, by a field Connection that lists `close`, in whatever
+-- case (RFC 9112, section 9.6), or by its number
 abbrev pub closes_after : ℕ → RequestHead → Bool
 closes_after served head =
-    not (is_persistent head.version) || list_any lists_close (map named_value head.fields) || (served + 1 == REQUEST_LIMIT)
+    not (is_persistent head.version)
+    || list_any (λ (field : NamedValue). is_named connection field && list_any (λ member. bytes_eq (lowered member) (codes "close")) (members field.1)) (map named_value head.fields)
+    || (served + 1 == REQUEST_LIMIT)
 
 -- whether a request asks for a head alone; without a head it doesn't
 abbrev pub answers_head : Option RequestHead → Bool

@@ -4,6 +4,7 @@ pub mod Endings
 pub mod Exchanging
 pub mod Gaining
 pub mod Givens
+pub mod Heads
 pub mod Looking
 pub mod Reads
 pub mod Shelving

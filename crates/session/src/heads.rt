@@ -7,6 +7,7 @@ ghost use Rattle.capture.specs.Methods.{asks_for_head as method_asks};
 ghost use Rattle.http_head.specs.Heads.{named_value};
 ghost use Rattle.message_body.specs.Framings.{members, told_by_request};
 ghost use Rattle.session.specs.Requests as spec;
+ghost use Rattle.session.specs.steps.Heads as steps;
 
 use crate::REQUEST_LIMIT;
 use capture::{BODY_LIMIT, Framing};
@@ -25,7 +26,7 @@ pub fn closes_after(served: usize, head: &RequestHead) -> bool
 
 /// Whether a head says that its request is the last.
 fn is_last(head: &RequestHead) -> bool
-    ensures { result ≡ (not (spec.is_persistent head.now.version) || list_any spec.lists_close (map named_value head.now.fields)) }
+    ensures { result ≡ (not (spec.is_persistent head.now.version) || list_any steps.lists_close (map named_value head.now.fields)) }
 {
     match head.version {
         Version::Http10 => true,
@@ -35,13 +36,13 @@ fn is_last(head: &RequestHead) -> bool
 
 /// Whether a field Connection lists `close`.
 fn asks_to_close(fields: &[Field]) -> bool
-    ensures { result ≡ list_any spec.lists_close (map named_value fields.now) }
+    ensures { result ≡ list_any steps.lists_close (map named_value fields.now) }
 {
     fields.iter().any(|field| lists_close(field))
 }
 
 fn lists_close(field: &Field) -> bool
-    ensures { result ≡ spec.lists_close (named_value field.now) }
+    ensures { result ≡ steps.lists_close (named_value field.now) }
 {
     field.has_name(b"connection") && has_close(field.value.as_slice())
 }
@@ -74,19 +75,19 @@ fn is_close(member: &[u8]) -> bool
 
 /// Whether the client waits for an answer before it sends the body (RFC 9110, section 10.1.1).
 fn expects_answer(head: &RequestHead) -> bool
-    ensures { result ≡ list_any spec.is_expectation (map named_value head.now.fields) }
+    ensures { result ≡ list_any steps.is_expectation (map named_value head.now.fields) }
 {
     has_expectation(head.fields.as_slice())
 }
 
 fn has_expectation(fields: &[Field]) -> bool
-    ensures { result ≡ list_any spec.is_expectation (map named_value fields.now) }
+    ensures { result ≡ list_any steps.is_expectation (map named_value fields.now) }
 {
     fields.iter().any(|field| is_expectation(field))
 }
 
 fn is_expectation(field: &Field) -> bool
-    ensures { result ≡ spec.is_expectation (named_value field.now) }
+    ensures { result ≡ steps.is_expectation (named_value field.now) }
 {
     field.has_name(b"expect") && field.value.as_slice().eq_ignore_ascii_case(b"100-continue")
 }
@@ -100,7 +101,7 @@ pub fn asks_for_head(head: &RequestHead) -> bool
 
 /// Whether a head that is aimed somewhere asks to be told that its body is awaited.
 pub fn asks_to_go_on(head: &RequestHead) -> bool
-    ensures { result ≡ spec.waits_for_answer head.now }
+    ensures { result ≡ steps.waits_for_answer head.now }
 {
     tells_body(head) && is_persistent(head.version) && expects_answer(head)
 }

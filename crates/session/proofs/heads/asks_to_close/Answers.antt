@@ -2,7 +2,7 @@ use Rattle.std.proofs.Common.{◌∙◌, rules, tests}
 use Rattle.std.proofs.lemmas.Iterator.{YieldsList-from_slice}
 use Rattle.std.proofs.lemmas.Iterator.Search.{any_from_yields_List}
 use Rattle.http_head.specs.Heads.{named_value}
-use Rattle.session.specs.Requests.{lists_close}
+use Rattle.session.specs.steps.Heads.{lists_close}
 use Rattle.session.proofs.HeadLaws.{any_named}
 use Rattle.session.proofs.heads.asks_to_close.Goals as goal
 
