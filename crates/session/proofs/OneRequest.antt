@@ -37,9 +37,10 @@ use Rattle.http_wire.proofs.OneHead.{no_head_is_none, no_head_in_more, one_skipp
 use Rattle.http_wire.specs.Decisions.{FirstsAreOne, MessagesStay, RefusalsStay}
 use Rattle.http_wire.specs.Heads.{BeginsWithRequest}
 use Rattle.http_wire.specs.Messages.{IsRequest}
-use Rattle.session.specs.Requests.{IsAimRefusal, IsAimedNowhere, IsAsked, IsInterim, IsNoMessage, IsRefused, IsUndecided, interim_of, refusal_of}
+use Rattle.session.specs.Requests.{IsAimRefusal, IsAsked, IsInterim, IsRefused, IsUndecided, interim_of, refusal_of, IsAimed}
 use Rattle.session.proofs.AskedLaws.{refused_first, somewhere, stands_first}
 use Rattle.session.proofs.ReadLaws.{long_isnt_head, one_text}
+use Rattle.session.specs.steps.Reads.{IsAimedNowhere}
 
 -- what lower crates promise of a client's stream
 pub record Cutting : Type 0 where
@@ -209,13 +210,12 @@ refused_stays laws site wire more (Some head) refusal (begins, inl nowhere) = (b
 refused_stays laws site wire more (Some head) refusal (begins, inr wrong) =
     let stays = begins_stays laws.heads wire more head begins in (
       stays,
-      inr (record {
-        fault = wrong.fault;
-        aimed = wrong.aimed;
-        refused = at_or_behind (wire ++ more) head wrong.fault stays
-            (laws.refusals Requests false wire more wrong.fault (refused_first wire wrong.fault wrong.refused));
-        refusal_is = wrong.refusal_is;
-      }),
+      inr (
+        wrong.0,
+        wrong.1,
+        at_or_behind (wire ++ more) head wrong.0 stays (laws.refusals Requests false wire more wrong.0 (refused_first wire wrong.0 wrong.2)),
+        wrong.3,
+      ),
     )
 
 aim_fault_once : (a : Result Aim AimFault) (f g : AimFault) → a ≡ Err f → a ≡ Err g → f ≡ g
@@ -237,23 +237,28 @@ none_told stream head begins none =
 
 nowhere_once : (site : Site) (head : RequestHead) (a b : Refusal) → IsAimedNowhere site head a → IsAimedNowhere site head b → a ≡ b
 nowhere_once site head a b h k =
-    let same : h.fault ≡ k.fault = aim_fault_once (aim_of site head.method head.target) h.fault k.fault h.aimed k.aimed in
-    aim_refusal_once k.fault a b (subst (λ (f : AimFault). IsAimRefusal f a) same h.refusal_is) k.refusal_is
+    let same : h.0 ≡ k.0 = aim_fault_once (aim_of site head.method head.target) h.0 k.0 h.1 k.1 in
+    aim_refusal_once k.0 a b (subst (λ (f : AimFault). IsAimRefusal f a) same h.2) k.2
+
+-- it asks to go somewhere, and it or the body behind it is no message
+abbrev IsNoMessage : Site → List ℕ → RequestHead → Refusal → Type 0
+IsNoMessage site wire head refusal =
+    (fault : MessageFault) × IsAimed site head × (RefusesAtHead Requests wire fault ⊎ RefusesBehindHead Requests wire fault) × (refusal ≡ refusal_of fault)
 
 wrong_once : FirstsAreOne → (site : Site) (stream : List ℕ) (head : RequestHead) (a b : Refusal) → IsNoMessage site stream head a
     → IsNoMessage site stream head b → a ≡ b
 wrong_once one site stream head a b h k =
-    let same : h.fault ≡ k.fault = fault_once h.fault k.fault
-    (one Requests true stream (RefusedFirst h.fault) (RefusedFirst k.fault) (refused_first stream h.fault h.refused) (refused_first stream k.fault k.refused)) in
-    h.refusal_is ∙ ap refusal_of same ∙ sym k.refusal_is
+    let same : h.0 ≡ k.0 = fault_once h.0 k.0
+    (one Requests true stream (RefusedFirst h.0) (RefusedFirst k.0) (refused_first stream h.0 h.2) (refused_first stream k.0 k.2)) in
+    h.3 ∙ ap refusal_of same ∙ sym k.3
 
 behind_head_once : FirstsAreOne → (site : Site) (stream : List ℕ) (head : RequestHead) (a b : Refusal)
     → IsAimedNowhere site head a ⊎ IsNoMessage site stream head a → IsAimedNowhere site head b ⊎ IsNoMessage site stream head b → a ≡ b
 behind_head_once one site stream head a b (inl h) (inl k) = nowhere_once site head a b h k
 behind_head_once one site stream head a b (inl h) (inr k) =
-    somewhere (aim_of site head.method head.target) (aim_of site head.method head.target) k.aimed.0 h.fault k.aimed.1 h.aimed refl
+    somewhere (aim_of site head.method head.target) (aim_of site head.method head.target) k.1.0 h.0 k.1.1 h.1 refl
 behind_head_once one site stream head a b (inr h) (inl k) =
-    somewhere (aim_of site head.method head.target) (aim_of site head.method head.target) h.aimed.0 k.fault h.aimed.1 k.aimed refl
+    somewhere (aim_of site head.method head.target) (aim_of site head.method head.target) h.1.0 k.0 h.1.1 k.1 refl
 behind_head_once one site stream head a b (inr h) (inr k) = wrong_once one site stream head a b h k
 
 -- with which head, and why
@@ -298,10 +303,10 @@ asked_or_refused laws site w x m aim None b asked (inr (none, e)) =
     none_told (w ++ x) m.head (begins_stays laws.heads w x m.head (begins_of w m asked.is)) none
 asked_or_refused laws site w x m aim (Some head) b asked (begins, inl nowhere) =
     let same : m.head ≡ head = one_head (w ++ x) m.head head (begins_stays laws.heads w x m.head (begins_of w m asked.is)) begins in
-    somewhere (aim_of site m.head.method m.head.target) (aim_of site head.method head.target) aim nowhere.fault asked.aimed nowhere.aimed (ap (λ (h : RequestHead). aim_of site h.method h.target) same)
+    somewhere (aim_of site m.head.method m.head.target) (aim_of site head.method head.target) aim nowhere.0 asked.aimed nowhere.1 (ap (λ (h : RequestHead). aim_of site h.method h.target) same)
 asked_or_refused laws site w x m aim (Some head) b asked (begins, inr wrong) =
-    message_isnt (length w) wrong.fault (laws.firsts Requests true (w ++ x) (Message (length w)) (RefusedFirst wrong.fault)
-    (asked_first laws w x m true asked.is) (refused_first (w ++ x) wrong.fault wrong.refused))
+    message_isnt (length w) wrong.0 (laws.firsts Requests true (w ++ x) (Message (length w)) (RefusedFirst wrong.0)
+    (asked_first laws w x m true asked.is) (refused_first (w ++ x) wrong.0 wrong.2))
 
 -- a request isn't refused by bytes that it begins
 pub asked_isnt_refused : {P : Type 0} → Cutting → (site : Site) (w v x y : List ℕ) (m : RequestMessage) (aim : Aim) (head : Option RequestHead) (b : Refusal)
@@ -356,10 +361,10 @@ decided_on one site stream (Some head) b (begins, why) (inl between) =
     absurd (no_head_is_none begins.skipped head.text (sym between.0 ∙ begins.front))
 decided_on one site stream (Some head) b (begins, why) (inr (inl needs)) = needs_no_head stream head.text begins.skipped needs begins.front
 decided_on one site stream (Some head) b (begins, inl nowhere) (inr (inr awaits)) =
-    somewhere (aim_of site awaits.0.method awaits.0.target) (aim_of site head.method head.target) awaits.2.0 nowhere.fault awaits.2.1 nowhere.aimed
+    somewhere (aim_of site awaits.0.method awaits.0.target) (aim_of site head.method head.target) awaits.2.0 nowhere.0 awaits.2.1 nowhere.1
     (ap (λ (h : RequestHead). aim_of site h.method h.target) (one_head stream awaits.0 head awaits.1 begins))
 decided_on one site stream (Some head) b (begins, inr wrong) (inr (inr awaits)) =
-    fault_isnt wrong.fault (one Requests false stream (RefusedFirst wrong.fault) BodyNeeded (refused_first stream wrong.fault wrong.refused) awaits.3)
+    fault_isnt wrong.0 (one Requests false stream (RefusedFirst wrong.0) BodyNeeded (refused_first stream wrong.0 wrong.2) awaits.3)
 
 pub refused_is_decided : {P : Type 0} → Cutting → (site : Site) (w x : List ℕ) (head : Option RequestHead) (b : Refusal) → IsRefused site w head b
     → IsUndecided site (w ++ x) → P

@@ -31,8 +31,8 @@ use Rattle.http_wire.specs.Messages.{IsRequest}
 use Rattle.http_wire.specs.Reading.{Standing, Open, Failed, EndsInside}
 use Rattle.http_wire.specs.Reading.{IsUndecided as WireUndecided, LacksHead as WireLacksHead}
 use Rattle.outside.specs.declared.gate.Heard.{Heard}
-use Rattle.session.specs.steps.Reads.{Client, HasTaken, HasRead, AwaitsRest, ReadsNone, NoMore, Breaking, Refusing, GivingUp, Owes, ComesFaulty, IsBehind, IsWellAsked, LooksAt, ReadsBody, RefusesAim}
-use Rattle.session.specs.Requests.{IsAimed, IsAimedNowhere, IsInside, IsInterim, IsRefused, IsUndecided, answers_head, continue_text, interim_of, refusal_of}
+use Rattle.session.specs.steps.Reads.{Client, HasTaken, HasRead, AwaitsRest, ReadsNone, NoMore, Breaking, Refusing, GivingUp, Owes, ComesFaulty, IsBehind, IsWellAsked, LooksAt, ReadsBody, RefusesAim, IsAimedNowhere}
+use Rattle.session.specs.Requests.{IsAimed, IsInside, IsInterim, IsRefused, IsUndecided, answers_head, continue_text, interim_of, refusal_of}
 use Rattle.session.specs.steps.Wire.{EndsRefusal, Says, Tries, Writes}
 use Rattle.session.specs.declared.reading.Asked.{Asked}
 use Rattle.session.specs.declared.served.Served.{Served}
@@ -276,9 +276,9 @@ refused_by site stream interim standing (Some head) fault refusal n holds owed e
     let is : IsRequestHeadText none.text holds.holds.0 = subst (λ (t : List ℕ). IsRequestHeadText t holds.holds.0) (sym same) holds.holds.1.reads in
     absurd (none.none holds.holds.0 is)
 refused_by site stream interim standing (Some head) fault refusal n holds owed e (inr (inr (inl at))) =
-    (holds, inr (record { fault = fault; aimed = owed.0; refused = inl at; refusal_is = e }))
+    (holds, inr (fault, owed.0, inl at, e))
 refused_by site stream interim standing (Some head) fault refusal n holds owed e (inr (inr (inr behind))) =
-    (holds, inr (record { fault = fault; aimed = owed.0; refused = inr behind; refusal_is = e }))
+    (holds, inr (fault, owed.0, inr behind, e))
 
 -- bytes that are refused
 pub turned_away : (site : Site) (from : Client) (stream interim : List ℕ) (standing : Standing) (head : Option RequestHead) (fault : MessageFault)
@@ -309,26 +309,26 @@ pub aim_ends : (site : Site) (head : RequestHead) (fault : AimFault) (asks : Boo
 aim_ends site head aim_fault.ConnectRefused asks before now end is asked h =
     inl (
       refusals.ConnectRefused,
-      record { fault = aim_fault.ConnectRefused; aimed = is; refusal_is = refl },
+      (aim_fault.ConnectRefused, is, refl),
       subst (λ (b : Bool). EndsRefusal refusals.ConnectRefused (refusal_text refusals.ConnectRefused b true) before now end) asked h,
     )
 aim_ends site head aim_fault.SecureRefused asks before now end is asked h =
     inl (
       refusals.SecureRefused,
-      record { fault = aim_fault.SecureRefused; aimed = is; refusal_is = refl },
+      (aim_fault.SecureRefused, is, refl),
       subst (λ (b : Bool). EndsRefusal refusals.SecureRefused (refusal_text refusals.SecureRefused b true) before now end) asked h,
     )
 aim_ends site head aim_fault.TargetRefused asks before now end is asked h =
     inl (
       refusals.TargetRefused,
-      record { fault = aim_fault.TargetRefused; aimed = is; refusal_is = refl },
+      (aim_fault.TargetRefused, is, refl),
       subst (λ (b : Bool). EndsRefusal refusals.TargetRefused (refusal_text refusals.TargetRefused b true) before now end) asked h,
     )
 aim_ends site head aim_fault.Memory asks before now end is asked h = inr (inl h)
 
 -- a head that goes nowhere asks for nothing
 nowhere_asks : (site : Site) (head : RequestHead) (refusal : Refusal) → IsAimedNowhere site head refusal → interim_of site head ≡ []
-nowhere_asks site head refusal h = by_aim (aim_of site head.method head.target) (waits_for_answer head) h.fault h.aimed where
+nowhere_asks site head refusal h = by_aim (aim_of site head.method head.target) (waits_for_answer head) h.0 h.1 where
   by_aim : (aim : Result Aim AimFault) (waits : Bool) (fault : AimFault) → aim ≡ Err fault → (if is_ok aim && waits then continue_text else []) ≡ []
   by_aim (Err fault) waits f e = refl
   by_aim (Ok aim) waits f e = absurd (cc)

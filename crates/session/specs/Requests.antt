@@ -120,25 +120,16 @@ refusal_of message_fault.HeadTooLong = HeadTooLong
 refusal_of message_fault.BodyTooLong = BodyTooLong
 refusal_of message_fault.CodingRefused = CodingRefused
 
--- the head asks to go nowhere
-pub record IsAimedNowhere (site : Site) (head : RequestHead) (refusal : Refusal) : Type 0 where
-  pub fault : AimFault
-  pub aimed : aim_of site head.method head.target ≡ Err fault
-  pub refusal_is : IsAimRefusal fault refusal
-
--- the head asks to go somewhere, and it or the body behind it is no message
-pub record IsNoMessage (site : Site) (wire : List ℕ) (head : RequestHead) (refusal : Refusal) : Type 0 where
-  pub fault : MessageFault
-  pub aimed : IsAimed site head
-  pub refused : RefusesAtHead Requests wire fault ⊎ RefusesBehindHead Requests wire fault
-  pub refusal_is : refusal ≡ refusal_of fault
-
--- the bytes are refused for themselves, with this head or without one
+-- The bytes are refused for themselves, with this head or without one. A head asks to go nowhere; or it asks to go somewhere, and it or the body behind it
+-- is no message.
 abbrev pub IsRefused : Site → List ℕ → Option RequestHead → Refusal → Type 0
 IsRefused site wire None refusal =
     ((front_of wire ≡ head_front.TooLong) × (refusal ≡ HeadTooLong)) ⊎ (HasNoHead Requests wire × (refusal ≡ Malformed))
 IsRefused site wire (Some head) refusal =
-    BeginsWithRequest wire head × (IsAimedNowhere site head refusal ⊎ IsNoMessage site wire head refusal)
+    BeginsWithRequest wire head
+    × (((fault : AimFault) × (aim_of site head.method head.target ≡ Err fault) × IsAimRefusal fault refusal)
+    ⊎ ((fault : MessageFault) × IsAimed site head × (RefusesAtHead Requests wire fault ⊎ RefusesBehindHead Requests wire fault)
+    × (refusal ≡ refusal_of fault)))
 
 -- the bytes aren't decided, or begin with a head that asks to go somewhere, behind which nothing is looked at, or are refused for themselves
 abbrev pub IsBegun : Site → List ℕ → Type 0

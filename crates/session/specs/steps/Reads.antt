@@ -15,7 +15,7 @@ use Rattle.http_head.specs.declared.head.RequestMessage.{RequestMessage}
 use Rattle.http_wire.specs.Heads.{BeginsWithRequest}
 use Rattle.http_wire.specs.Messages.{IsRequest}
 use Rattle.outside.specs.declared.gate.Heard.{Heard}
-use Rattle.session.specs.Requests.{IsAimed, IsAimedNowhere, IsAsked, IsBegun, IsBetween, IsInside, IsInterim, IsRefused, IsUndecided, answers_head, interim_of}
+use Rattle.session.specs.Requests.{IsAimed, IsAsked, IsBegun, IsBetween, IsInside, IsInterim, IsRefused, IsUndecided, answers_head, interim_of, IsAimRefusal}
 use Rattle.session.specs.steps.Wire.{Breaks, EndsRefusal, Says, Tries, Writes}
 use Rattle.session.specs.declared.reading.Asked.{Asked}
 use Rattle.session.specs.declared.served.Served.{Served}
@@ -117,6 +117,10 @@ pub record ComesFaulty (from : Client) (stream interim : List ℕ) (to : Heard) 
   pub said : Says interim from.heard to
 
 -- ---- a head that is looked at
+
+-- the head asks to go nowhere
+abbrev pub IsAimedNowhere : Site → RequestHead → Refusal → Type 0
+IsAimedNowhere site head refusal = (fault : AimFault) × (aim_of site head.method head.target ≡ Err fault) × IsAimRefusal fault refusal
 
 -- Where a head goes. It was told that its body is awaited, if it asks for that; or the connection ends: the head goes nowhere, or
 -- there was no memory, or the link failed.
