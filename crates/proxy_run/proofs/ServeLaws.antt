@@ -26,6 +26,7 @@ use Rattle.capture.specs.Faults.{Rose, RoseBy}
 use Rattle.capture.specs.Growth.{Grows}
 use Rattle.capture.specs.declared.book.Book.{Book}
 use Rattle.capture.specs.declared.site.Site.{Site}
+use Rattle.capture.specs.First.{Requests, NothingBegun, IsFirst}
 use Rattle.link_queue.specs.Serving.{all_of}
 use Rattle.outside.specs.declared.clock.Clock.{Ghosts as Clocks}
 use Rattle.outside.specs.declared.dialer.Dialer.{Ghosts as Dialers}
@@ -51,7 +52,6 @@ use Rattle.command.specs.declared.status.Status.{Status}
 use Rattle.command.specs.declared.status.Status.TheVariants.{Done, Words, Archive, Outside, Memory}
 use Rattle.session.specs.Connection.{Setting}
 use Rattle.session.specs.Laws.{CoursesCountFaults, CoursesGrow}
-use Rattle.session.specs.Requests.{IsBetween}
 use Rattle.session.specs.Rounds.{Round, disk_faults, is_closed, lacks, numbers_by}
 use Rattle.session.specs.Stopping.{Course, Ends, IsClosed, IsLeftOver}
 use Rattle.session.specs.declared.served.Served.{Served}
@@ -114,7 +114,7 @@ module _ {D : Type 0} (disks : Disks D) {before : Holdings D} {said status : Sta
 heard_out : (result : Served) (site : Site) (c : Course) (then now : Heard) → c.served ≡ 0 → Ends result site c then now → IsHeardOut now c.rounds
 heard_out end.Done site c then now first ends = met ends.3
   where
-    met : IsClosed c then now ⊎ ((now.ended ≡ true) × IsBetween c.rest × IsLeftOver site c then now) → IsHeardOut now c.rounds
+    met : IsClosed c then now ⊎ ((now.ended ≡ true) × IsFirst Requests true c.rest NothingBegun × IsLeftOver site c then now) → IsHeardOut now c.rounds
     met (inl all) = inr (inl (subst (λ n. is_closed n c.rounds ≡ true) first all.closed))
     met (inr left) = inl left.0
 heard_out end.ClientBroke site c then now first ends = inr (inr (inl ends.0))

@@ -10,11 +10,11 @@ use Rattle.outside.specs.Calls.{one_more}
 use Rattle.outside.specs.declared.gate.Heard.{Heard}
 use Rattle.session.specs.Connection.{IsConnection, Setting}
 use Rattle.session.specs.steps.Wire.{Says}
-use Rattle.session.specs.steps.Stages.{Stage, IsRemainder, IsStep, terms_at}
+use Rattle.session.specs.steps.Stages.{Stage, IsRemainder, IsStep, terms_at, closes}
 use Rattle.session.specs.Gains.{World, gains_of}
 use Rattle.session.specs.steps.Gaining.{gains_by}
 use Rattle.session.specs.Requests.{interim_of}
-use Rattle.session.specs.Rounds.{Round, Outcome, Undecided, Refused, Exchanged, Visited, closes, closes_outcome, course_text, course_wire, is_closed, lacks, refusal_in, refusals}
+use Rattle.session.specs.Rounds.{Round, Outcome, Undecided, Refused, Exchanged, Visited, closes_outcome, course_text, course_wire, is_closed, lacks, refusal_in, refusals}
 use Rattle.session.specs.Stopping.{Course, Ends, IsClosed, IsCutInside, IsCutShort, IsLeftOver}
 use Rattle.session.specs.Traces.{terms_of}
 use Rattle.session.specs.declared.served.Served.{Served}

@@ -7,13 +7,13 @@ use Rattle.capture.specs.declared.site.Site.{Site}
 use Rattle.outside.specs.Calls.{one_more}
 use Rattle.outside.specs.declared.gate.Heard.{Heard}
 use Rattle.session.specs.Connection.{Setting}
-use Rattle.session.specs.steps.Stages.{Gained, Stage, IsRemainder, terms_at, view_at}
+use Rattle.session.specs.steps.Stages.{Gained, Stage, IsRemainder, terms_at, view_at, closes}
 use Rattle.session.specs.steps.Endings.{LastIsWhole, LastIsInPart, client_at, heard_now}
 use Rattle.session.specs.Gains.{World, gains_of}
 use Rattle.session.specs.steps.Gaining.{no_gains, gains_by}
 use Rattle.session.specs.steps.Reads.{BreaksInside, MeetsEnd, MeetsNoMore}
 use Rattle.session.specs.Requests.{interim_of}
-use Rattle.session.specs.Rounds.{Round, closes}
+use Rattle.session.specs.Rounds.{Round}
 use Rattle.session.specs.Stopping.{Ends, IsLeftOver}
 use Rattle.session.specs.Traces.{Terms, View, LeadsView}
 use Rattle.session.specs.declared.served.Served.{Served}

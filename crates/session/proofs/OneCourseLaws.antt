@@ -25,9 +25,9 @@ use Rattle.outside.specs.declared.gate.Heard.{Heard}
 use Rattle.session.specs.Exchanges.{Exchange, Reply, Fails, IsReply}
 use Rattle.session.specs.Gains.{gains_of}
 use Rattle.session.specs.OneCourse.{AreOneCourse, AreSameRounds, CoursesEndOneWay, CoursesLeaveNoChoice, IsSameRound, RoundWentWell, RoundsLeaveNoChoice, WentWell}
-use Rattle.session.specs.Requests.{IsAsked, IsBetween, IsInside, IsInterim, IsUndecided, closes_after, interim_of}
+use Rattle.session.specs.Requests.{IsAsked, IsInside, IsInterim, IsUndecided, closes_after, interim_of}
 use Rattle.session.specs.Requests as requests
-use Rattle.session.specs.Rounds.{Round, Outcome, Undecided, Refused, Exchanged, Visited, IsCourse, IsDecided, IsRound, IsTextOf, closes, closes_outcome, course_text, course_wire, disk_fault, disk_faults, is_closed, lacks, origin_fault, origin_faults, refusal_in, refusals}
+use Rattle.session.specs.Rounds.{Round, Outcome, Undecided, Refused, Exchanged, Visited, IsCourse, IsDecided, IsRound, IsTextOf, closes_outcome, course_text, course_wire, disk_fault, disk_faults, is_closed, lacks, origin_fault, origin_faults, refusal_in, refusals}
 use Rattle.session.specs.SiteAnswers.{SiteRequest, SiteReply, IsSiteReply}
 use Rattle.session.specs.Stopping.{Course, Ends, IsClosed, IsLeftOver}
 use Rattle.session.specs.Traces.{CountsMet, IsConsistentView, IsIdle, LeadsView, Terms, View}
@@ -40,6 +40,8 @@ use Rattle.session.proofs.GrowingLaws.{courses_count, decided_leaves, leads_cons
 use Rattle.session.proofs.OneRequest.{Cutting, SameAsked, SameRefused, asked_is_decided, asked_isnt_refused, interim_asked, interim_refused, one_asked, one_head, one_refused, refused_is_decided, told_interim}
 use Rattle.session.proofs.OneReply.{Answering, DialedAlike, SameReply, dialed_alike, none_is, one_reply}
 use Rattle.session.proofs.OneVisit.{Finding, one_visit, text_once}
+use Rattle.session.specs.steps.Reads.{IsBetween}
+use Rattle.session.specs.steps.Stages.{closes}
 
 -- what lower crates promise
 pub record Choosing : Type 0 where

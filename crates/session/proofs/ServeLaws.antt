@@ -11,11 +11,11 @@ use Rattle.outside.specs.Calls.{one_more}
 use Rattle.outside.specs.declared.gate.Heard.{Heard}
 use Rattle.session.specs.steps.Answering.{Incoming, MakesRound, IsAnswered}
 use Rattle.session.specs.Connection.{Setting}
-use Rattle.session.specs.steps.Stages.{Stage, IsRemainder}
+use Rattle.session.specs.steps.Stages.{Stage, IsRemainder, closes}
 use Rattle.session.specs.steps.Endings.{client_at, heard_now}
 use Rattle.session.specs.Gains.{World}
 use Rattle.session.specs.steps.Reads.{Client, HasRead, HasTaken, ReadsNone, NoMore, Breaking, Refusing, GivingUp}
-use Rattle.session.specs.Rounds.{Round, Outcome, closes, refusal_in}
+use Rattle.session.specs.Rounds.{Round, Outcome, refusal_in}
 use Rattle.session.specs.steps.Wire.{Breaks, Tries, Writes}
 use Rattle.session.specs.steps.Givens.{Given}
 use Rattle.session.specs.declared.served.Served.{Served}

@@ -85,19 +85,15 @@ IsInterim site stream text =
     ((head : RequestHead) × BeginsWithRequest stream head × (text ≡ interim_of site head))
     ⊎ (((head : RequestHead) → ¬ (BeginsWithRequest stream head)) × (text ≡ []))
 
--- nothing has begun but line ends that are skipped
-abbrev pub IsBetween : List ℕ → Type 0
-IsBetween stream = IsFirst Requests true stream NothingBegun
-
 -- a request has begun, and more of it is needed: of its head, or of the body behind a head that asks to go somewhere
 abbrev pub IsInside : Site → List ℕ → Type 0
 IsInside site stream =
     IsFirst Requests true stream HeadNeeded
     ⊎ ((head : RequestHead) × BeginsWithRequest stream head × IsAimed site head × IsFirst Requests false stream BodyNeeded)
 
--- no request as yet, and no refusal
+-- no request as yet, and no refusal: nothing has begun but line ends that are skipped, or more is needed
 abbrev pub IsUndecided : Site → List ℕ → Type 0
-IsUndecided site stream = IsBetween stream ⊎ IsInside site stream
+IsUndecided site stream = IsFirst Requests true stream NothingBegun ⊎ IsInside site stream
 
 -- the bytes are one request, with the line ends that are skipped before it, which asks to go there
 pub record IsAsked (site : Site) (wire : List ℕ) (message : RequestMessage) (aim : Aim) : Type 0 where

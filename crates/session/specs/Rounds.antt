@@ -45,10 +45,6 @@ closes_outcome served (Exchanged e (Fails refusal)) = closes_after served e.mess
 closes_outcome served (Exchanged e (Passes received payload)) = received.cut || closes_after served e.message.head
 closes_outcome served (Visited q reply) = closes_after served q.message.head
 
--- want of memory closes as well
-abbrev pub closes : ℕ → Round → Bool
-closes served r = r.lacked || closes_outcome served r.outcome
-
 -- ---- faults
 
 -- a fault of the dialer or of one of its links was met
@@ -116,17 +112,14 @@ is_from_shown (Visited q (Lists url entries)) = true
 is_from_shown (Visited q (Finds query found)) = true
 is_from_shown other = false
 
--- such an answer knows the captures of the book that was left before it
-abbrev pub KnowsBefore : Terms → View → Round → Type 0
-KnowsBefore terms left r =
-    IsTrue terms.tells → IsTrue (is_from_shown r.outcome) → Shows terms.alone left.book r.traces.before.shown
-
--- Lawful rounds, from this view of the archive to that, each of which leads to the next. Only the last may close.
+-- Lawful rounds, from this view of the archive to that, each of which leads to the next. An answer that is taken from the entries that are shown knows the
+-- captures of the book that was left before it. Only the last round may close, by its outcome or for want of memory.
 abbrev pub IsCourse : Terms → ℕ → View → List Round → View → Type 0
 IsCourse terms served was [] is = LeadsView terms was is
 IsCourse terms served was (r ∷ rounds) is =
-    IsRound terms served r × LeadsView terms was r.traces.before × KnowsBefore terms was r
-    × (closes served r ≡ true → rounds ≡ []) × IsCourse terms (served + 1) r.traces.after rounds is
+    IsRound terms served r × LeadsView terms was r.traces.before
+    × (IsTrue terms.tells → IsTrue (is_from_shown r.outcome) → Shows terms.alone was.book r.traces.before.shown)
+    × ((r.lacked || closes_outcome served r.outcome) ≡ true → rounds ≡ []) × IsCourse terms (served + 1) r.traces.after rounds is
 
 -- how many faults rounds met: of the dialer with its links, and of the disk
 abbrev pub origin_faults : List Round → ℕ
@@ -145,10 +138,10 @@ course_text rounds = flat_map (λ r. r.interim ++ r.text) rounds
 abbrev pub course_wire : List Round → List ℕ
 course_wire rounds = flat_map (λ r. r.wire) rounds
 
--- some round closes the connection
+-- some round closes the connection, by its outcome or for want of memory
 abbrev pub is_closed : ℕ → List Round → Bool
 is_closed served [] = false
-is_closed served (r ∷ rounds) = closes served r || is_closed (served + 1) rounds
+is_closed served (r ∷ rounds) = (r.lacked || closes_outcome served r.outcome) || is_closed (served + 1) rounds
 
 -- some round ran out of memory
 abbrev pub lacks : List Round → Bool

@@ -1,12 +1,13 @@
 -- How a connection ends.
 use Rattle.std.specs.Prelude.{◌≡◌, ◌≢◌, ◌⊎◌, ℕ, true, false, List, [], ◌∷◌, ◌++◌}
 use Rattle.capture.specs.declared.site.Site.{Site}
+use Rattle.capture.specs.First.{Requests, NothingBegun, IsFirst}
 use Rattle.exchange.specs.Writing.{GrowsByProperFront}
 use Rattle.outside.specs.Calls.{one_more}
 use Rattle.outside.specs.declared.gate.Heard.{Heard}
 use Rattle.http_head.specs.declared.head.RequestHead.{RequestHead}
 use Rattle.http_wire.specs.Heads.{BeginsWithRequest}
-use Rattle.session.specs.Requests.{IsBetween, IsInside, IsInterim, IsUndecided, interim_of}
+use Rattle.session.specs.Requests.{IsInside, IsInterim, IsUndecided, interim_of}
 use Rattle.session.specs.Rounds.{Round, course_text, is_closed, lacks, refusals}
 use Rattle.session.specs.declared.served.Served.{Served}
 use Rattle.session.specs.declared.served.Served.TheVariants.{Done, ClientBroke, ClientEndedEarly, ClientRefused, WantOfMemory}
@@ -52,12 +53,12 @@ pub record IsLeftOver (site : Site) (c : Course) (then now : Heard) : Type 0 whe
   pub unfailed : now.failed_writes ≡ then.failed_writes
 
 -- How a connection ended says where it stopped. Its link is whole: an answer closed it, which refused the bytes that came or didn't; or
--- the client's end was met, between messages or inside one. Its link failed: in a write of an answer or of the text that
+-- the client's end was met, where nothing has begun but line ends that are skipped, or inside a message. Its link failed: in a write of an answer or of the text that
 -- asks for a body, or in a read. There was no memory: with the answer that says so, whole or in part.
 abbrev pub Ends : Served → Site → Course → Heard → Heard → Type 0
 Ends Done site c then now =
     (now.faults ≡ 0) × (lacks c.rounds ≡ false) × (refusals c.rounds ≡ [])
-    × (IsClosed c then now ⊎ ((now.ended ≡ true) × IsBetween c.rest × IsLeftOver site c then now))
+    × (IsClosed c then now ⊎ ((now.ended ≡ true) × IsFirst Requests true c.rest NothingBegun × IsLeftOver site c then now))
 Ends ClientBroke site c then now =
     (now.faults ≢ 0) × (lacks c.rounds ≡ false)
     × (IsCutShort c then now ⊎ IsCutInside site c then now ⊎ IsLeftOver site c then now)

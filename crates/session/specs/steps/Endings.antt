@@ -3,13 +3,13 @@ use Rattle.std.specs.Prelude.{◌≡◌, ℕ, true, List, [], ◌∷◌, ◌++�
 use Rattle.exchange.specs.Receiving.{StaysAccounted}
 use Rattle.exchange.specs.Writing.{GrowsByProperFront}
 use Rattle.session.specs.Connection.{Setting}
-use Rattle.session.specs.steps.Stages.{Stage, IsMade}
+use Rattle.session.specs.steps.Stages.{Stage, IsMade, closes}
 use Rattle.session.specs.Gains.{World}
 use Rattle.outside.specs.Calls.{one_more}
 use Rattle.outside.specs.declared.gate.Heard.{Heard}
 use Rattle.session.specs.steps.Reads.{Client}
 use Rattle.session.specs.steps.Wire.{Says}
-use Rattle.session.specs.Rounds.{Round, closes}
+use Rattle.session.specs.Rounds.{Round}
 use Rattle.session.specs.Stopping.{Ends, IsClosed, IsCutShort}
 use Rattle.session.specs.declared.served.Served.{Served}
 

@@ -4,6 +4,7 @@ use Rattle.capture.specs.Methods.{asks_for_head}
 use Rattle.capture.specs.declared.refusal.Refusal.{Refusal}
 use Rattle.capture.specs.declared.refusal.Refusal.TheVariants.{ConnectRefused, SecureRefused, TargetRefused}
 use Rattle.capture.specs.declared.site.Site.{Site}
+use Rattle.capture.specs.First.{Requests, NothingBegun, IsFirst}
 use Rattle.exchange.specs.Receiving.{BeginsAccounted, StaysAccounted}
 use Rattle.exchange.specs.Refusals.{refusal_text, memory_text}
 use Rattle.exchange.specs.Aim.{HasShortHost, aim_of}
@@ -15,7 +16,7 @@ use Rattle.http_head.specs.declared.head.RequestMessage.{RequestMessage}
 use Rattle.http_wire.specs.Heads.{BeginsWithRequest}
 use Rattle.http_wire.specs.Messages.{IsRequest}
 use Rattle.outside.specs.declared.gate.Heard.{Heard}
-use Rattle.session.specs.Requests.{IsAimed, IsAsked, IsBegun, IsBetween, IsInside, IsInterim, IsRefused, IsUndecided, answers_head, interim_of, IsAimRefusal}
+use Rattle.session.specs.Requests.{IsAimed, IsAsked, IsBegun, IsInside, IsInterim, IsRefused, IsUndecided, answers_head, interim_of, IsAimRefusal}
 use Rattle.session.specs.steps.Wire.{Breaks, EndsRefusal, Says, Tries, Writes}
 use Rattle.session.specs.declared.reading.Asked.{Asked}
 use Rattle.session.specs.declared.served.Served.{Served}
@@ -46,6 +47,10 @@ pub record AwaitsRest (site : Site) (from : Client) (stream : List ℕ) (head : 
   pub taken : HasTaken from stream (interim_of site head) to
 
 -- ---- no request was read
+
+-- nothing has begun but line ends that are skipped
+abbrev pub IsBetween : List ℕ → Type 0
+IsBetween stream = IsFirst Requests true stream NothingBegun
 
 -- how a connection ends where no more comes behind these bytes
 abbrev pub MeetsEnd : Served → Site → List ℕ → Heard → Type 0

@@ -1,12 +1,13 @@
 -- A connection from a stage on, and a step from one stage to the next.
-use Rattle.std.specs.Prelude.{◌≡◌, ◌+◌, ◌-◌, ◌^◌, ◌<◌, ℕ, Bool, false, IsTrue, List, [], ◌∷◌, ◌++◌, length}
+use Rattle.std.specs.Prelude.{◌≡◌, ◌+◌, ◌-◌, ◌^◌, ◌<◌, ℕ, Bool, false, IsTrue, List, [], ◌∷◌, ◌++◌, length, ◌||◌}
 use Rattle.archive_shelf.specs.Told.{Told}
+use Rattle.archive_shelf.specs.Contents.{Shows}
 use Rattle.exchange.specs.Receiving.{StaysAccounted}
 use Rattle.session.specs.Connection.{Setting}
 use Rattle.session.specs.Gains.{World, Gains, gains_of}
 use Rattle.session.specs.steps.Gaining.{gains_by}
 use Rattle.session.specs.Images.{KeepsImages}
-use Rattle.session.specs.Rounds.{Round, IsRound, IsCourse, KnowsBefore, closes, course_wire}
+use Rattle.session.specs.Rounds.{Round, IsRound, IsCourse, course_wire, closes_outcome, is_from_shown}
 use Rattle.session.specs.Stopping.{Ends}
 use Rattle.session.specs.Traces.{LeadsView, Terms, View, terms_of, view_of}
 use Rattle.session.specs.steps.Wire.{Says}
@@ -25,6 +26,10 @@ terms_at alone setting shelf = terms_of setting.site alone shelf.contents
 -- what is seen
 abbrev pub view_at : World → View
 view_at world = view_of world.shelf.contents world.dialer_faults world.shelf.faults
+
+-- whether the connection closes with a round, behind so many requests
+abbrev pub closes : ℕ → Round → Bool
+closes served r = r.lacked || closes_outcome served r.outcome
 
 module _ (alone : Bool) (setting : Setting) where
   -- what the objects tell has changed by what was gained
@@ -51,7 +56,7 @@ module _ (alone : Bool) (setting : Setting) where
   pub record IsMade (served : ℕ) (r : Round) (was is : World) : Type 0 where
     pub lawful : IsRound (terms_at alone setting was.shelf) served r
     pub leads : LeadsView (terms_at alone setting was.shelf) (view_at was) r.traces.before
-    pub knows : KnowsBefore (terms_at alone setting was.shelf) (view_at was) r
+    pub knows : IsTrue was.shelf.contents.tells → IsTrue (is_from_shown r.outcome) → Shows alone was.shelf.contents.seen r.traces.before.shown
     pub left : view_at is ≡ r.traces.after
     pub gained : Gained was is (gains_by r)
     pub images : KeepsImages (terms_at alone setting was.shelf) (r ∷ []) was.shelf is.shelf
