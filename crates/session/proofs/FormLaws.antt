@@ -16,7 +16,7 @@ use Rattle.surt_key.specs.Key.{key_of}
 use Rattle.replay_url.proofs.OneForm.{one_form}
 use Rattle.session.specs.Complete.{IsFaultless, HasShown, HasWanted, IsAnswer, CapturesThatAreThereAreReplayed}
 use Rattle.session.specs.Rounds.{Outcome, Visited, IsDecided, IsTextOf, disk_fault}
-use Rattle.session.specs.SiteAnswers.{SiteRequest, SiteReply, Refuses, Redirects, Replays, Lists, Finds, Ships, HasNoMore, Asks, FindsNone, IsSoughtTime, IsDated, IsRejected, IsSiteReply, date_field, serves_method}
+use Rattle.session.specs.SiteAnswers.{SiteRequest, SiteReply, Refuses, Redirects, Replays, Lists, Finds, Ships, HasNoMore, Asks, IsSoughtTime, IsDated, IsRejected, IsSiteReply, date_field, serves_method}
 use Rattle.session.specs.Traces.{Terms, View, Traces, CountsMet}
 use Rattle.session.proofs.CompleteLaws.{rose_not, text_by, told_not_untold}
 
@@ -116,14 +116,14 @@ queried q view form text asks wanted other none =
     let is : HasWanted view (ForQuery text) = subst (λ (f : Form). HasWanted view (question_of f)) same wanted in
     absurd (none is.0 is.1)
 
-found : {P : Type 0} (q : SiteRequest) (view : View) (form : Form) → Asks q form → HasWanted view (question_of form) → FindsNone q view → P
-found q view form asks wanted h =
-    let same : form ≡ h.form = one_form (parts_at q.address) form h.form asks.is h.asks.is in
-    by_question (question_of h.form) (subst (λ (f : Form). HasWanted view (question_of f)) same wanted) h.asked where
-      shown : {P : Type 0} (url : List ℕ) → HasShown view url → Some url ≡ Some h.url → P
-      shown url there e = let url_is : url ≡ h.url = cc in absurd (there h.key (subst (λ (u : List ℕ). key_of u ≡ Some h.key) (sym url_is) h.keyed) h.none)
+found : {P : Type 0} (q : SiteRequest) (view : View) (form : Form) → Asks q form → HasWanted view (question_of form) → (terms : Terms) → IsRejected terms q NoCapture view → P
+found q view form asks wanted terms (other, also, wished, asked, key, keyed, none) =
+    let same : form ≡ other = one_form (parts_at q.address) form other asks.is also.is in
+    by_question (question_of other) (subst (λ (f : Form). HasWanted view (question_of f)) same wanted) asked where
+      shown : {P : Type 0} (url : List ℕ) → HasShown view url → Some url ≡ Some wished → P
+      shown url there e = let url_is : url ≡ wished = cc in absurd (there key (subst (λ (u : List ℕ). key_of u ≡ Some key) (sym url_is) keyed) none)
 
-      by_question : {P : Type 0} (asked : Question) → HasWanted view asked → asked_url asked ≡ Some h.url → P
+      by_question : {P : Type 0} (asked : Question) → HasWanted view asked → asked_url asked ≡ Some wished → P
       by_question (ForNearest sought) there e = shown sought.url there e
       by_question (ForAll url) there e = shown url there e
       by_question (ForQuery text) there e = let bad : ⊥ = cc in absurd bad
@@ -139,7 +139,7 @@ no_rejection terms q BadTime traces form tells whole disk asks wanted h = timed 
 no_rejection terms q BadAcceptDatetime traces form tells whole disk asks wanted h = dated q form h.1.0 asks h.1.1 h.2
 no_rejection terms q BadQuery traces form tells whole disk asks wanted h = queried q traces.before form h.0 asks wanted h.1 h.2
 no_rejection terms q (NoSuch number count) traces form tells whole disk asks wanted h = numbered q traces.before form number asks wanted h.0
-no_rejection terms q NoCapture traces form tells whole disk asks wanted h = found q traces.before form asks wanted h
+no_rejection terms q NoCapture traces form tells whole disk asks wanted h = found q traces.before form asks wanted terms h
 no_rejection terms q DiskFault traces form tells whole disk asks wanted h = rose_not _ _ disk.rose whole.disk whole.disk_counts
 no_rejection terms q (Damaged at kept lost) traces form tells whole disk asks wanted h = told_not_untold terms.tells tells h.1.untold
 no_rejection terms q (ClockRange now) traces form tells whole disk asks wanted h = absurd h

@@ -54,7 +54,7 @@ use Rattle.time_text.specs.Reading.{IsHttpDate}
 use Rattle.warc_text.specs.Growth.{NumbersHaveOneGroup}
 use Rattle.warc_text.specs.Records.{info_text}
 use Rattle.session.specs.Rounds.{Visited, disk_fault}
-use Rattle.session.specs.SiteAnswers.{SiteRequest, SiteReply, Refuses, Redirects, Replays, Lists, Finds, Ships, HasNoMore, Asks, FindsNone, IsRejected, IsSiteReply, IsSiteText, IsSoughtTime, Reaches, Wants, date_field, serves_method}
+use Rattle.session.specs.SiteAnswers.{SiteRequest, SiteReply, Refuses, Redirects, Replays, Lists, Finds, Ships, HasNoMore, Asks, IsRejected, IsSiteReply, IsSiteText, IsSoughtTime, Reaches, Wants, date_field, serves_method}
 use Rattle.session.specs.Traces.{Terms, View}
 use Rattle.session.proofs.CompleteLaws.{told_not_untold}
 use Rattle.session.proofs.FormLaws.{dated, formed, timed, unserved}
@@ -234,15 +234,15 @@ asked : (terms : Terms) (q : SiteRequest) (view : View) (reply : SiteReply) (for
 asked terms q view reply form question asks is follows =
     Asking form asks (subst (λ (x : Question). Follows terms q view x reply) (sym is) follows)
 
-shows_none : (terms : Terms) (q : SiteRequest) (view : View) (h : FindsNone q view) → Answers terms q view (Refuses NoCapture)
-shows_none terms q view h = by_question (question_of h.form) refl h.asked where
-  of_url : (url : List ℕ) → Some url ≡ Some h.url → ShowsNoneOf view url
-  of_url url e = let same : url ≡ h.url = same_Some url h.url e in
-      record { key = h.key; keyed = ap key_of same ∙ h.keyed; none = h.none }
+shows_none : (terms : Terms) (q : SiteRequest) (view : View) → IsRejected terms q NoCapture view → Answers terms q view (Refuses NoCapture)
+shows_none terms q view (form, asks, wished, asked_is, key, keyed, none) = by_question (question_of form) refl asked_is where
+  of_url : (url : List ℕ) → Some url ≡ Some wished → ShowsNoneOf view url
+  of_url url e = let same : url ≡ wished = same_Some url wished e in
+      record { key = key; keyed = ap key_of same ∙ keyed; none = none }
 
-  by_question : (question : Question) → question_of h.form ≡ question → asked_url question ≡ Some h.url → Answers terms q view (Refuses NoCapture)
-  by_question (ForNearest sought) is e = asked terms q view (Refuses NoCapture) h.form (ForNearest sought) h.asks is (NotShown refl (of_url sought.url e))
-  by_question (ForAll url) is e = asked terms q view (Refuses NoCapture) h.form (ForAll url) h.asks is (NoneListed refl (of_url url e))
+  by_question : (question : Question) → question_of form ≡ question → asked_url question ≡ Some wished → Answers terms q view (Refuses NoCapture)
+  by_question (ForNearest sought) is e = asked terms q view (Refuses NoCapture) form (ForNearest sought) asks is (NotShown refl (of_url sought.url e))
+  by_question (ForAll url) is e = asked terms q view (Refuses NoCapture) form (ForAll url) asks is (NoneListed refl (of_url url e))
   by_question (ForQuery text) is e = let bad : ⊥ = cc in absurd bad
   by_question (ForNumber number) is e = let bad : ⊥ = cc in absurd bad
   by_question (ForPiece number) is e = let bad : ⊥ = cc in absurd bad

@@ -104,20 +104,6 @@ Wants q view (ForNearest sought) number =
     × (number < length (captures view.book))
 Wants q view other number = ⊥
 
--- no capture of the URL is shown
-pub record FindsNone (q : SiteRequest) (view : View) : Type 0 where
-  pub form : Form
-  pub asks : Asks q form
-  pub url : List ℕ
-  pub asked : asked_url (question_of form) ≡ Some url
-  pub key : List ℕ
-  pub keyed : key_of url ≡ Some key
-  pub none : HasNone view.shown key
-
--- no entry is shown under this number
-abbrev pub ShowsNone : View → ℕ → Type 0
-ShowsNone view number = (entry : Facts) → Contains view.shown entry → entry.number ≢ number
-
 -- ---- the replies
 
 -- Why the site refuses. A number is told to be that of no capture of the book, nor of one that is shown; or to be that of no piece, nor of
@@ -132,8 +118,10 @@ IsRejected terms q BadAcceptDatetime view =
 IsRejected terms q BadQuery view = (text : List ℕ) × Asks q (Queried text) × ((query : Query) → ¬ (IsQuery text query))
 IsRejected terms q (NoSuch number count) view =
     ((Asks q (Number number) × (length (captures view.book) ≤ number)) ⊎ (Asks q (Ship number) × (length (captures view.book) < number)))
-    × ShowsNone view number × (count ≡ length (captures view.book))
-IsRejected terms q NoCapture view = FindsNone q view
+    × ((entry : Facts) → Contains view.shown entry → entry.number ≢ number) × (count ≡ length (captures view.book))
+IsRejected terms q NoCapture view =
+    (form : Form) × Asks q form × (url : List ℕ) × (asked_url (question_of form) ≡ Some url) × (key : List ℕ) × (key_of url ≡ Some key)
+    × HasNone view.shown key
 IsRejected terms q DiskFault view =
     ((question : Question) × (number : ℕ) × Wants q view question number)
     ⊎ ((number : ℕ) × Asks q (Ship number) × (number < length (captures view.book)))
@@ -169,7 +157,8 @@ IsSiteReply terms q (Finds query found) view =
 IsSiteReply terms q (Ships number piece) view =
     Asks q (Ship number) × (number < length (captures view.book)) × IsShownPiece view.book view.shown number piece
     × (IsTrue terms.tells → IsPiece view.book number piece)
-IsSiteReply terms q (HasNoMore number) view = Asks q (Ship number) × (number ≡ length (captures view.book)) × ShowsNone view number
+IsSiteReply terms q (HasNoMore number) view =
+    Asks q (Ship number) × (number ≡ length (captures view.book)) × ((entry : Facts) → Contains view.shown entry → entry.number ≢ number)
 
 -- ---- the texts
 

@@ -20,7 +20,7 @@ returns-then-is_empty-clause-answers g c clock_tells =
     (record { message = c.args.visit.message.now; address = c.args.visit.address.now })
     (Refuses NoCapture) c.args.visit.closes c.refused.result (g.S.Finder.told c.args.shelf.now) (g.S.Finder.told c.all_of.new.shelf)
     (g.met.S.Finder.earlier c.all_of.new.shelf) c.all_of.ensures.looks found.knows refl
-    (λ faults. record { form = Map c.args.of.now.url; asks = c.requires.asks; url = c.args.of.now.url; asked = refl; key = found.key; keyed = found.keyed; none = lists_none g.S.Finder.alone (g.S.Finder.told c.all_of.new.shelf).contents c.args.of.now.url c.in-Ok.entries.items found (empty_list c.in-Ok.entries.items (vec_len c.in-Ok.entries) c.is_empty.result (omega (arith, c.in-Ok.entries.ok.0)) c.is_empty.ensures c.if-is_empty.true) })
+    (λ faults. (Map c.args.of.now.url, c.requires.asks, c.args.of.now.url, refl, found.key, found.keyed, lists_none g.S.Finder.alone (g.S.Finder.told c.all_of.new.shelf).contents c.args.of.now.url c.in-Ok.entries.items found (empty_list c.in-Ok.entries.items (vec_len c.in-Ok.entries) c.is_empty.result (omega (arith, c.in-Ok.entries.ok.0)) c.is_empty.ensures c.if-is_empty.true)))
     (refusal_is c.refused.result NoCapture c.asks_for_head-answers_head.result _ c.args.visit.closes c.asks_for_head-answers_head.ensures c.refused.ensures.text)
     c.refused.ensures.closes
 

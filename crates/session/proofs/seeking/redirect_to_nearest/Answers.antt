@@ -29,7 +29,7 @@ returns-in-Ok-None-clause-answers g c clock_tells =
     (record { message = c.args.visit.message.now; address = c.args.visit.address.now })
     (Refuses NoCapture) c.args.visit.closes c.refused.result (g.S.Finder.told c.args.shelf.now) (g.S.Finder.told c.seek.new.shelf)
     (g.met.S.Finder.earlier c.seek.new.shelf) c.seek.ensures.looks found.knows refl
-    (λ faults. record { form = Gate c.args.of.now.url; asks = c.requires.asks; url = c.args.of.now.url; asked = refl; key = found.key; keyed = found.keyed; none = found.nearest })
+    (λ faults. (Gate c.args.of.now.url, c.requires.asks, c.args.of.now.url, refl, found.key, found.keyed, found.nearest))
     (refusal_is c.refused.result NoCapture c.asks_for_head-answers_head.result _ c.args.visit.closes c.asks_for_head-answers_head.ensures c.refused.ensures.text)
     c.refused.ensures.closes
 
