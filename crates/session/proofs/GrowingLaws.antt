@@ -13,7 +13,7 @@ use Rattle.capture.specs.declared.captured.Stored.{Stored}
 use Rattle.capture.specs.declared.refusal.Refusal.{Refusal}
 use Rattle.capture.specs.declared.refusal.Refusal.TheVariants.{Malformed, TargetRefused, BadTime, BadAcceptDatetime, BadQuery, NotAForm, NoCapture, NoSuch, MethodRefused, BodyTooLong, HeadTooLong, ClockRange, ConnectRefused, SecureRefused, CodingRefused, DialFault, OriginFault, OriginEnded, OriginMalformed, OriginTooLong, TooManyInterim, Full, DiskFault, Damaged}
 use Rattle.http_head.specs.declared.head.Received.{Received}
-use Rattle.session.specs.Exchanges.{Exchange, Fails, Passes, IsRefusedByDisk, IsPassedOn, IsReply}
+use Rattle.session.specs.Exchanges.{Exchange, Fails, Passes, IsPassedOn, IsReply}
 use Rattle.session.specs.Images.{contents_at}
 use Rattle.session.specs.Laws.{CoursesGrow, CoursesShowOn, CoursesCountFaults, CoursesStayConsistent, IdsDifferOnTheWay}
 use Rattle.session.specs.Rounds.{Round, Outcome, Undecided, Refused, Exchanged, Visited, IsDecided, origin_fault, origin_faults, disk_fault, disk_faults}
@@ -35,11 +35,11 @@ pub record Growing : Type 0 where
 -- the book stayed; or the disk refused a store; or a capture was stored
 pub data Leaves (terms : Terms) (traces : Traces) : Type 0 where
   Stayed : (stays : StaysView terms traces.before traces.after) → Leaves terms traces
-  Denied : (e : Exchange) (refused : IsRefusedByDisk terms e traces) → Leaves terms traces
+  Denied : (e : Exchange) (refused : IsReply terms e (Fails DiskFault) traces) → Leaves terms traces
   Stored_it : (e : Exchange) (received : Received) (payload : List ℕ) (passed : IsPassedOn terms e received payload traces) → Leaves terms traces
 
 pub failure_leaves : (terms : Terms) (e : Exchange) (refusal : Refusal) (traces : Traces) → IsReply terms e (Fails refusal) traces
-    → StaysView terms traces.before traces.after ⊎ IsRefusedByDisk terms e traces
+    → StaysView terms traces.before traces.after ⊎ IsReply terms e (Fails DiskFault) traces
 failure_leaves terms e (ClockRange now) traces h = inl h.3
 failure_leaves terms e DialFault traces h = inl h.4
 failure_leaves terms e OriginFault traces h = inl h.1
@@ -79,15 +79,15 @@ decided_leaves terms r (Visited q reply) h = Stayed h.1.untouched
 -- ---- books
 
 -- a store that the disk refused leaves a book that has grown
-refused_grows : Growing → (terms : Terms) (e : Exchange) (traces : Traces) → IsRefusedByDisk terms e traces
+refused_grows : Growing → (terms : Terms) (e : Exchange) (traces : Traces) → IsReply terms e (Fails DiskFault) traces
     → Grows traces.before.book traces.after.book
 refused_grows laws terms e traces h =
     laws.stores terms.alone _ (contents_at terms traces.before) (contents_at terms traces.after) (Err store_fault.DiskFault) (record {
       found = traces.before.book;
       led = laws.leads terms.alone traces.before.book;
-      not_full = h.room.room;
-      left = h.left;
-      shown = h.shown;
+      not_full = h.0.room;
+      left = h.1;
+      shown = h.2;
       others = refl;
     })
 
@@ -128,7 +128,7 @@ ids_differ laws terms served was (r ∷ rounds) is (lawful, leads, knows, last, 
 
 pub leaves_shows : (terms : Terms) (traces : Traces) → Leaves terms traces → Begins traces.before.shown traces.after.shown
 leaves_shows terms traces (Stayed h) = leads_begins terms.alone traces.before.shown traces.after.shown h.shown
-leaves_shows terms traces (Denied e h) = leads_begins terms.alone traces.before.shown traces.after.shown h.shown
+leaves_shows terms traces (Denied e h) = leads_begins terms.alone traces.before.shown traces.after.shown h.2
 leaves_shows terms traces (Stored_it e received payload h) = past_begins terms.alone h.receipt.number traces.before.shown traces.after.shown h.shown
 
 pub courses_show_on : CoursesShowOn
@@ -172,7 +172,7 @@ pub leaves_consistent : (terms : Terms) (traces : Traces) → IsTrue terms.alone
     → IsConsistentView terms traces.after
 leaves_consistent terms traces alone (Stayed stays) h =
     same_consistent terms traces.before traces.after stays.book (shown_same terms.alone traces.before.shown traces.after.shown alone stays.shown) h
-leaves_consistent terms traces alone (Denied e refused) h = refused.consistent
+leaves_consistent terms traces alone (Denied e refused) h = refused.3
 leaves_consistent terms traces alone (Stored_it e received payload passed) h = passed.consistent
 
 pub courses_stay_consistent : CoursesStayConsistent

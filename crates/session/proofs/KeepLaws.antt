@@ -209,12 +209,12 @@ module _ (alone : Bool) (site : Site) (e : Exchange) (closes : Bool) (date : ℕ
   denied_reply lacked was is consistent h = record {
     found = h.leaves.found;
     led = h.leaves.led;
-    by = record {
-      room = room_in h.leaves.found was is h.leaves.not_full;
-      left = h.leaves.left;
-      shown = h.leaves.shown;
-      consistent = stays_consistent alone site e was is around.faults_now (ap (λ (x : Contents). x.tells) h.leaves.others) consistent;
-    };
+    by = (
+      room_in h.leaves.found was is h.leaves.not_full,
+      h.leaves.left,
+      h.leaves.shown,
+      stays_consistent alone site e was is around.faults_now (ap (λ (x : Contents). x.tells) h.leaves.others) consistent,
+    );
     kept = λ lacking. refl;
     dialer = stayed_met around.faults_before around.faults_now come.steady;
     disk = rose_met was.faults is.faults h.faults.1;

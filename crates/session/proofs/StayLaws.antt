@@ -15,7 +15,7 @@ use Rattle.exchange.specs.declared.fetching.FetchFault.{FetchFault}
 use Rattle.exchange.specs.declared.fetching.FetchFault.TheVariants as fetch_fault
 use Rattle.http_head.specs.declared.head.Received.{Received}
 use Rattle.outside.specs.declared.dialer.Transcript.{Transcript}
-use Rattle.session.specs.Exchanges.{Exchange, Fails, Passes, Fetched, IsPassedOn, IsRefusedByDisk, IsReply, RanOut}
+use Rattle.session.specs.Exchanges.{Exchange, Fails, Passes, Fetched, IsPassedOn, IsReply, RanOut}
 use Rattle.session.specs.Gains.{gains_of}
 use Rattle.session.specs.Laws.{IsDialedFor, OriginsAloneAreDialed, OtherRoundsStoreNothing, PassedOnResponsesStay}
 use Rattle.session.specs.Requests.{IsAsked}
@@ -91,7 +91,7 @@ module _ (site : Site) (r : Round) (t : Transcript) (there : Contains r.traces.t
   failure_dialed terms e OriginTooLong asked h = fetched_from e (Err fetch_fault.OriginTooLong) asked h.0
   failure_dialed terms e TooManyInterim asked h = fetched_from e (Err fetch_fault.TooManyInterim) asked h.0
   failure_dialed terms e (Full count limit) asked h = fetched_from e (Ok h.0) asked h.1
-  failure_dialed terms e DiskFault asked h = fetched_from e (Ok h.room.received) asked h.room.fetched
+  failure_dialed terms e DiskFault asked h = fetched_from e (Ok h.0.received) asked h.0.fetched
   failure_dialed terms e (Damaged number kept found) asked h = fetched_from e (Ok h.0.received) asked h.0.fetched
   failure_dialed terms e (NoSuch number count) asked h = absurd h
   failure_dialed terms e Malformed asked h = absurd h
@@ -137,9 +137,9 @@ origins_dialed terms served was (r ∷ rounds) is t (lawful, leads, knows, last,
 
 -- ---- nothing is stored
 
-denied_stores_none : (terms : Terms) (e : Exchange) (traces : Traces) → IsRefusedByDisk terms e traces
+denied_stores_none : (terms : Terms) (e : Exchange) (traces : Traces) → IsReply terms e (Fails DiskFault) traces
     → captures traces.after.book ≡ captures traces.before.book
-denied_stores_none terms e traces h = elim h.left [
+denied_stores_none terms e traces h = elim h.1 [
   | inl same ↦ ap (λ (book : Book). captures book) same
   | inr alone ↦ ap (λ (book : Book). captures book) alone.volume ∙ captures_stay traces.before.book.volumes _
 ]

@@ -1,6 +1,7 @@
 -- A request that goes to an origin, and how it is answered (RFC 9110, sections 3.7 and 7.6). Refusals come in this order: for the
 -- clock, for the dialer, for what the origin sent, for want of room, for the disk.
 use Rattle.std.specs.Prelude.{◌≡◌, ◌⊎◌, ℕ, ◌<◌, ◌≤◌, List, [], ◌∷◌, length, IsTrue, Result, Ok, Err, Some, None}
+use Rattle.cdxj_index.specs.OfBook.{AreEntries}
 use Rattle.archive_shelf.specs.Answers.{IsByRule, IsDamaged, HasVolumeAlone}
 use Rattle.archive_shelf.specs.Comparing.{CanRefer}
 use Rattle.archive_shelf.specs.Contents.{LeadsShown}
@@ -21,7 +22,7 @@ use Rattle.http_head.specs.declared.head.Received.{Received}
 use Rattle.http_head.specs.declared.head.RequestMessage.{RequestMessage}
 use Rattle.outside.specs.declared.dialer.Transcript.{Transcript}
 use Rattle.time_text.specs.Texts.{InRange}
-use Rattle.session.specs.Traces.{Terms, Traces, StaysView, IsConsistentView}
+use Rattle.session.specs.Traces.{Terms, Traces, StaysView}
 
 -- a request, and the origin that it goes to
 pub record Exchange : Type 0 where
@@ -67,15 +68,6 @@ pub record HasRoom (terms : Terms) (e : Exchange) (traces : Traces) : Type 0 whe
   pub fetched : Fetched e (Ok received) traces
   pub room : length (captures traces.before.book) < terms.limits.captures
 
--- The disk failed: nothing was stored, but a volume that the capture needs may be there. What is shown stays, and alone it is still
--- the entries of the book.
-pub record IsRefusedByDisk (terms : Terms) (e : Exchange) (traces : Traces) : Type 0 where
-  pub room : HasRoom terms e traces
-  pub left : (traces.after.book ≡ traces.before.book)
-      ⊎ HasVolumeAlone terms.tells terms.limits.volume_bytes traces.before.book (taken_of e room.fetched.date room.received) traces.after.book
-  pub shown : LeadsShown terms.alone None traces.before.shown traces.after.shown
-  pub consistent : IsConsistentView terms traces.after
-
 -- ---- the response
 
 -- The origin's response was passed on, and it is the archive's last capture: there was room, it alone was gained, by the rule of
@@ -93,7 +85,7 @@ pub record IsPassedOn (terms : Terms) (e : Exchange) (received : Received) (payl
       → IsByRule terms.limits.volume_bytes traces.before.book (taken_of e fetched.date received) receipt traces.after.book
   pub there : IsTrue terms.tells → IsPayloadOf traces.after.book receipt.number payload
   pub shown : LeadsShown terms.alone (Some receipt.number) traces.before.shown traces.after.shown
-  pub consistent : IsConsistentView terms traces.after
+  pub consistent : IsTrue terms.alone → IsTrue terms.tells → AreEntries traces.after.book traces.after.shown
 
 -- ---- want of memory
 
@@ -109,7 +101,8 @@ pub record RanOut (terms : Terms) (e : Exchange) (traces : Traces) : Type 0 wher
 
 -- The reply follows from what the exchange left. A refusal has its cause in the clock, whose answer has no text, so that nobody was
 -- dialed; in that no link was made; in what came over the one link in place of a response; in the limit of the archive, which has as
--- many captures as there may be; in the disk; or in what was read of an earlier capture, to be compared, and is damaged.
+-- many captures as there may be; in the disk; or in what was read of an earlier capture, to be compared, and is damaged. Where the disk failed nothing was
+-- stored, but a volume that the capture needs may be there; and what is shown is alone still the entries of the book.
 abbrev pub IsReply : Terms → Exchange → Reply → Traces → Type 0
 IsReply terms e (Fails (ClockRange now)) traces =
     (traces.times ≡ now ∷ []) × (InRange now → ⊥) × (traces.transcripts ≡ []) × StaysView terms traces.before traces.after
@@ -123,7 +116,12 @@ IsReply terms e (Fails TooManyInterim) traces = Fetched e (Err fetch_fault.TooMa
 IsReply terms e (Fails (Full count limit)) traces =
     (received : Received) × Fetched e (Ok received) traces × (count ≡ length (captures traces.before.book)) × (limit ≡ terms.limits.captures)
     × (limit ≤ count) × StaysView terms traces.before traces.after
-IsReply terms e (Fails DiskFault) traces = IsRefusedByDisk terms e traces
+IsReply terms e (Fails DiskFault) traces =
+    (room : HasRoom terms e traces)
+    × ((traces.after.book ≡ traces.before.book)
+    ⊎ HasVolumeAlone terms.tells terms.limits.volume_bytes traces.before.book (taken_of e room.fetched.date room.received) traces.after.book)
+    × LeadsShown terms.alone None traces.before.shown traces.after.shown
+    × (IsTrue terms.alone → IsTrue terms.tells → AreEntries traces.after.book traces.after.shown)
 IsReply terms e (Fails (Damaged number kept found)) traces =
     HasRoom terms e traces × (number < length (captures traces.before.book)) × IsDamaged terms.tells kept found
     × StaysView terms traces.before traces.after
