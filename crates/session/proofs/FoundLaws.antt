@@ -18,7 +18,7 @@ use Rattle.session.specs.Connection.{Setting}
 use Rattle.session.specs.steps.Declining.{Declines, refusal_by_bring}
 use Rattle.session.specs.steps.Givens.{Given}
 use Rattle.session.specs.steps.Looking.{FindsJust, NamesNoTime, ReachesJust}
-use Rattle.session.specs.SiteAnswers.{SiteRequest, Refuses, IsReplayed, IsSoughtTime}
+use Rattle.session.specs.SiteAnswers.{SiteRequest, Refuses, IsSoughtTime, Replays, IsSiteReply}
 use Rattle.session.specs.Traces.{Terms}
 use Rattle.session.proofs.LookLaws.{found_answers, found_lacking_by, shown_on}
 use Rattle.session.proofs.VisitLaws.{refusal_is, told_damaged}
@@ -46,16 +46,16 @@ found_there alone mid is q sought number count h later (count_is, past, none) =
 pub found_replayed : (terms : Terms) (alone : Bool) (q : SiteRequest) (sought : Nearest) (number faults disk : ℕ) (brought : Brought)
     (mid is : Contents) → ReachesJust q mid.shown sought number → LeadsShown alone None mid.shown is.shown
     → Brings is number (Ok brought) → is.tells ≡ terms.tells
-    → IsReplayed terms q (record { book = is.seen; shown = mid.shown; dialer_faults = faults; disk_faults = disk }) (ForNearest sought) brought
-found_replayed terms alone q sought number faults disk brought mid is h later (there, replayable, named, known, as_shown) same = record {
-  number = number;
-  wants = (h.entry, h.reaches, h.named, h.number_is, there);
-  replayable = replayable;
-  named = named;
-  as_shown = λ entry shown. as_shown entry (shown_on alone mid.shown is.shown entry later shown);
-  brought_is = λ tells. (known (rw same tells)).0;
-  agrees = λ tells entry shown at. (known (rw same tells)).1 entry (shown_on alone mid.shown is.shown entry later shown) at;
-}
+    → IsSiteReply terms q (Replays (ForNearest sought) brought) (record { book = is.seen; shown = mid.shown; dialer_faults = faults; disk_faults = disk })
+found_replayed terms alone q sought number faults disk brought mid is h later (there, replayable, named, known, as_shown) same = (
+  number,
+  (h.entry, h.reaches, h.named, h.number_is, there),
+  replayable,
+  named,
+  λ entry shown. as_shown entry (shown_on alone mid.shown is.shown entry later shown),
+  λ tells. (known (rw same tells)).0,
+  λ tells entry shown at. (known (rw same tells)).1 entry (shown_on alone mid.shown is.shown entry later shown) at,
+)
 
 -- or it wasn't brought
 pub found_unbrought : (alone : Bool) (setting : Setting) (q : SiteRequest) (sought : Nearest) (number : ℕ) (fault : BringFault) (asks closes : Bool)

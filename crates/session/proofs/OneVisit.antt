@@ -301,7 +301,7 @@ answered terms q (Refuses refusal) view tells disk h = rejected terms q refusal 
 answered terms q (Redirects sought entry) view tells disk h =
     asked terms q view (Redirects sought entry) h.0.form (ForNearest sought) h.0.asks h.0.asked (LedOn entry refl h.0 h.1)
 answered terms q (Replays question brought) view tells disk h =
-    replays terms q view question brought tells h.number h.wants (h.brought_is tells)
+    replays terms q view question brought tells h.0 h.1 (h.5 tells)
 answered terms q (Lists url entries) view tells disk h = Asking (Map url) h.1 (SomeListed entries refl h.0 h.2 h.3 h.4)
 answered terms q (Finds query found) view tells disk h = Asking (Query h.0) h.1 (Found_by query found refl h.2 h.3)
 answered terms q (Ships number piece) view tells disk h =

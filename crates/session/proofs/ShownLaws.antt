@@ -17,11 +17,11 @@ use Rattle.session.proofs.StayLaws.{IsIn, lawful_in, only_this}
 
 pub found_replayed : FoundCapturesAreReplayed
 found_replayed terms q view sought brought h tells =
-    let found = h.wants in (
+    let found = h.1 in (
       found.0,
       found.1,
-      subst (λ (n : ℕ). IsEntryOf view.book n found.0) found.3 (h.agrees tells found.0 found.1.nearest.member (sym found.3)),
-      subst (λ (n : ℕ). IsBrought view.book n brought) found.3 (h.brought_is tells),
+      subst (λ (n : ℕ). IsEntryOf view.book n found.0) found.3 (h.6 tells found.0 found.1.nearest.member (sym found.3)),
+      subst (λ (n : ℕ). IsBrought view.book n brought) found.3 (h.5 tells),
     )
 
 -- what was shown before a course is shown in each of its rounds

@@ -32,7 +32,7 @@ use Rattle.session.specs.Connection.{Setting}
 use Rattle.session.specs.steps.Declining.{Declines, DeclinesPiece, refusal_by_bring}
 use Rattle.session.specs.Requests.{IsAsked, IsInterim, closes_after, IsBegun}
 use Rattle.session.specs.Rounds.{Round, Visited, IsRound, disk_fault, Undecided, is_from_shown}
-use Rattle.session.specs.SiteAnswers.{SiteRequest, SiteReply, Refuses, HasNoMore, Ships, Asks, IsReplayed, IsSiteReply, IsSiteText, nothing_text}
+use Rattle.session.specs.SiteAnswers.{SiteRequest, SiteReply, Refuses, HasNoMore, Ships, Asks, IsSiteReply, IsSiteText, nothing_text, Replays}
 use Rattle.session.specs.Traces.{Terms, View, CountsMet}
 use Rattle.capture.specs.declared.captured.Brought.{Brought}
 use Rattle.capture.specs.declared.memory.Memory.{Memory}
@@ -311,22 +311,22 @@ brought_visits alone setting q reply fault was is h met unshown by = record {
 -- a capture that was brought by its number is replayed
 pub number_replayed : (terms : Terms) (q : SiteRequest) (number : ℕ) (brought : Brought) (is : Contents) (faults disk : ℕ) → Asks q (Number number)
     → Brings is number (Ok brought) → is.tells ≡ terms.tells
-    → IsReplayed terms q (record { book = is.seen; shown = is.shown; dialer_faults = faults; disk_faults = disk }) (ForNumber number) brought
-number_replayed terms q number brought is faults disk asks (there, replayable, named, known, shown) same = record {
-  number = number;
-  wants = (asks, refl, there);
-  replayable = replayable;
-  named = named;
-  as_shown = shown;
-  brought_is = λ tells. (known (rw same tells)).0;
-  agrees = λ tells. (known (rw same tells)).1;
-}
+    → IsSiteReply terms q (Replays (ForNumber number) brought) (record { book = is.seen; shown = is.shown; dialer_faults = faults; disk_faults = disk })
+number_replayed terms q number brought is faults disk asks (there, replayable, named, known, shown) same = (
+  number,
+  (asks, refl, there),
+  replayable,
+  named,
+  shown,
+  λ tells. (known (rw same tells)).0,
+  λ tells. (known (rw same tells)).1,
+)
 
 -- a piece is shipped
 pub piece_shipped : (terms : Terms) (q : SiteRequest) (number : ℕ) (piece : List ℕ) (is : Contents) (faults disk : ℕ) → Asks q (Ship number)
     → GivesPiece is number (Ok piece) → is.tells ≡ terms.tells
     → IsSiteReply terms q (Ships number piece) (record { book = is.seen; shown = is.shown; dialer_faults = faults; disk_faults = disk })
-piece_shipped terms q number piece is faults disk asks (there, some, known) same = (asks, there, some, λ tells. known (rw same tells))
+piece_shipped terms q number piece is faults disk asks (there, some, known) same = (asks, there, (some.piece, some.digest), λ tells. known (rw same tells))
 
 -- a request that is answered by what was brought
 pub bring_answers : (alone : Bool) (setting : Setting) (q : SiteRequest) (reply : SiteReply) (closes fault : Bool)

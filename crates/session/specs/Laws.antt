@@ -25,7 +25,7 @@ use Rattle.capture.specs.declared.refusal.Refusal.TheVariants.{NoSuch}
 use Rattle.cdxj_index.specs.Facts.{Facts}
 use Rattle.cdxj_index.specs.OfBook.{IsEntryOf}
 use Rattle.replay_url.specs.Questions.{Nearest, ForNearest}
-use Rattle.session.specs.SiteAnswers.{SiteRequest, Refuses, HasNoMore, Reaches, IsReplayed}
+use Rattle.session.specs.SiteAnswers.{SiteRequest, Refuses, HasNoMore, Reaches, Replays, IsSiteReply}
 
 -- the book only grows, from round to round and over a course
 abbrev pub CoursesGrow : Type 0
@@ -108,7 +108,7 @@ OtherRoundsStoreNothing =
 abbrev pub FoundCapturesAreReplayed : Type 0
 FoundCapturesAreReplayed =
     (terms : Terms) (q : SiteRequest) (view : View) (sought : Nearest) (brought : Brought)
-    → IsReplayed terms q view (ForNearest sought) brought → IsTrue terms.tells
+    → IsSiteReply terms q (Replays (ForNearest sought) brought) view → IsTrue terms.tells
     → (entry : Facts) × Reaches q view.shown sought entry × IsEntryOf view.book entry.number entry × IsBrought view.book entry.number brought
 
 -- a number under which an entry was shown is told as that of no capture, nor as that of the next piece, in no later round, also in company

@@ -1,8 +1,8 @@
 -- A request to the archive's own site, and how it is answered (RFC 7089, sections 2 to 5). Refusals come in this order: for the
 -- method, for the address, for the date or the query that is asked for, for want of a capture, for the disk.
 use Rattle.std.specs.Prelude.{◌≡◌, ◌≢◌, ◌⊎◌, ℕ, ◌<◌, ◌≤◌, Bool, true, false, ◌||◌, List, [], ◌++◌, length, map, codes, bytes_eq, Contains, Option, Some, None, IsTrue, ⊤, slice_get}
-use Rattle.archive_shelf.specs.Answers.{BringsAsShown, IsBrought, IsDamaged, IsNamed, IsReplayable, KeepsPayloadOf}
-use Rattle.archive_shelf.specs.Pieces.{IsPiece, IsShownPiece}
+use Rattle.archive_shelf.specs.Answers.{BringsAsShown, IsBrought, IsDamaged, IsNamed, IsReplayable}
+use Rattle.archive_shelf.specs.Pieces.{IsPiece, IsSomePiece}
 use Rattle.archive_shelf.specs.Queries.{ArePicked}
 use Rattle.capture.specs.Captures.{captures}
 use Rattle.capture.specs.Fields.{values_of}
@@ -10,6 +10,8 @@ use Rattle.capture.specs.Methods.{asks_for_head}
 use Rattle.capture.specs.declared.captured.Brought.{Brought}
 use Rattle.capture.specs.declared.refusal.Refusal.{Refusal}
 use Rattle.capture.specs.declared.refusal.Refusal.TheVariants.{MethodRefused, NotAForm, BadTime, BadAcceptDatetime, BadQuery, NoSuch, NoCapture, DiskFault, Damaged}
+use Rattle.capture.specs.declared.captured.Stored.{Stored}
+use Rattle.capture.specs.declared.captured.Kept.TheVariants.{Same}
 use Rattle.cdx_query.specs.Answers.{IsAnswer, media_type_of}
 use Rattle.cdx_query.specs.Reading.{IsQuery}
 use Rattle.cdx_query.specs.declared.query.Query.{Query}
@@ -126,36 +128,31 @@ IsRejected terms q DiskFault view =
     ((question : Question) × (number : ℕ) × Wants q view question number)
     ⊎ ((number : ℕ) × Asks q (Ship number) × (number < length (captures view.book)))
 IsRejected terms q (Damaged at kept found) view =
-    (((question : Question) × (number : ℕ) × Wants q view question number × KeepsPayloadOf view.book number at)
+    (((question : Question) × (number : ℕ) × Wants q view question number
+    × ((at ≡ number) ⊎ ((stored : Stored) × (slice_get (captures view.book) number ≡ Some stored) × (stored.kept ≡ Same at))))
     ⊎ (Asks q (Ship at) × (at < length (captures view.book))))
     × IsDamaged terms.tells kept found
 IsRejected terms q other view = ⊥
 
--- The capture that was wanted is replayed. Whatever is told, it is what each entry tells that is shown under its number: its target, its date
--- and the digest of its payload. Where the disk is told, each such entry is that of the book's capture: so is the one that was found by date.
-pub record IsReplayed (terms : Terms) (q : SiteRequest) (view : View) (question : Question) (brought : Brought) : Type 0 where
-  pub number : ℕ
-  pub wants : Wants q view question number
-  pub replayable : IsReplayable brought
-  pub named : IsNamed view.book number brought
-  pub as_shown : BringsAsShown view.shown number brought
-  pub brought_is : IsTrue terms.tells → IsBrought view.book number brought
-  pub agrees : IsTrue terms.tells
-      → (entry : Facts) → Contains view.shown entry → entry.number ≡ number → IsEntryOf view.book number entry
-
--- The reply follows from what is seen of the archive. A redirect leads to the capture that is nearest, unless the address names its date.
--- All captures of the URL that are shown are listed, of which there are some. Whatever is told, the group of a piece tells the digest of
--- each entry that is shown under its number. The next piece is still to come.
+-- The reply follows from what is seen of the archive. A redirect leads to the capture that is nearest, unless the address names its date. The capture that
+-- is wanted is replayed: whatever is told, it is what each entry tells that is shown under its number, its target, its date and the digest of its payload;
+-- where the disk is told, each such entry is that of the book's capture, and so is the one that was found by date. All captures of the URL that are shown are
+-- listed, of which there are some. Whatever is told, the group of a piece tells the digest of each entry that is shown under its number. The next piece is
+-- still to come.
 abbrev pub IsSiteReply : Terms → SiteRequest → SiteReply → View → Type 0
 IsSiteReply terms q (Refuses refusal) view = IsRejected terms q refusal view
 IsSiteReply terms q (Redirects sought entry) view = Reaches q view.shown sought entry × (names_date sought.named entry.date ≡ false)
-IsSiteReply terms q (Replays question brought) view = IsReplayed terms q view question brought
+IsSiteReply terms q (Replays question brought) view =
+    (number : ℕ) × Wants q view question number × IsReplayable brought × IsNamed view.book number brought
+    × BringsAsShown view.shown number brought × (IsTrue terms.tells → IsBrought view.book number brought)
+    × (IsTrue terms.tells → (entry : Facts) → Contains view.shown entry → entry.number ≡ number → IsEntryOf view.book number entry)
 IsSiteReply terms q (Lists url entries) view =
     (key : List ℕ) × Asks q (Map url) × (key_of url ≡ Some key) × ArePicked (λ e. bytes_eq key e.key) view.shown entries × (entries ≢ [])
 IsSiteReply terms q (Finds query found) view =
     (text : List ℕ) × Asks q (Queried text) × IsQuery text query × IsAnswer query view.shown found
 IsSiteReply terms q (Ships number piece) view =
-    Asks q (Ship number) × (number < length (captures view.book)) × IsShownPiece view.book view.shown number piece
+    Asks q (Ship number) × (number < length (captures view.book))
+    × ((some : IsSomePiece view.book number piece) × ((entry : Facts) → Contains view.shown entry → entry.number ≡ number → entry.digest ≡ some.digest))
     × (IsTrue terms.tells → IsPiece view.book number piece)
 IsSiteReply terms q (HasNoMore number) view =
     Asks q (Ship number) × (number ≡ length (captures view.book)) × ((entry : Facts) → Contains view.shown entry → entry.number ≢ number)
