@@ -125,10 +125,10 @@ unfilled_is_next limit book stored room (inl same) = inl (inl same.1)
 unfilled_is_next limit book stored room (inr more) = inr (stored.date, more.1)
 
 pub leaves_next : StoringLeavesNext
-leaves_next was taken x (inl same) = record { room = was.seen; roomy = inl (inl refl); is = inl same }
-leaves_next was taken x (inr way) = record {
+leaves_next limit was taken x (inl same) = record { room = was; roomy = inl (inl refl); is = inl same }
+leaves_next limit was taken x (inr way) = record {
   room = way.0.unfilled;
-  roomy = unfilled_is_next was.limits.volume_bytes was.seen (as_stored taken way.0.same) way.0.unfilled way.0.roomy;
+  roomy = unfilled_is_next limit was (as_stored taken way.0.same) way.0.unfilled way.0.roomy;
   is = left way.1;
 }
   where

@@ -73,4 +73,4 @@ CapturesAreStoredOneWay = (limit : ℕ) (book : Book) (taken : Taken) (a b : Sto
 
 -- what a store may leave is next to the book
 abbrev pub StoringLeavesNext : Type 0
-StoringLeavesNext = (was : Contents) (taken : Taken) (x : Book) → MayLeave was taken x → IsNext was.seen x
+StoringLeavesNext = (limit : ℕ) (was : Book) (taken : Taken) (x : Book) → MayLeave limit was taken x → IsNext was x

@@ -90,7 +90,7 @@ IsRefused old new was is taken =
 
 -- storing the capture may leave this book, wherever it is stopped: the one before, that with the volume which the capture
 -- needs, or that with the capture
-abbrev pub MayLeave : Contents → Taken → Book → Type 0
-MayLeave was taken x =
-    SameBook x was.seen
-    ⊎ ((storing : Storing was.limits.volume_bytes was.seen taken) × ((x ≡ storing.unfilled) ⊎ (x ≡ stored_by storing)))
+abbrev pub MayLeave : (limit : ℕ) → Book → Taken → Book → Type 0
+MayLeave limit was taken x =
+    SameBook x was
+    ⊎ ((storing : Storing limit was taken) × ((x ≡ storing.unfilled) ⊎ (x ≡ stored_by storing)))

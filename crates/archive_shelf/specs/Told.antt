@@ -54,7 +54,7 @@ pub record ReadsOn (alone fault : Bool) (was is : Told) : Type 0 where
 -- What a crash may leave after a store, at whatever moment it stops that.
 pub record StoreMayLeave (alone : Bool) (taken : Taken) (was is : Told) (result : Result Receipt StoreFault) : Type 0 where
   pub later : was.crash.moment ≤ is.crash.moment
-  pub moves : HasIds was.contents.seen → Moves was.crash is.crash (MayLeave was.contents taken)
+  pub moves : HasIds was.contents.seen → Moves was.crash is.crash (MayLeave was.contents.limits.volume_bytes was.contents.seen taken)
   pub only : HasIds was.contents.seen → OnOk result (IsState is.crash is.contents.seen None)
   pub refused : IsTrue alone → IsTrue was.contents.tells → HasIds was.contents.seen → IsTrue (is_store_fault result)
       → IsRefused was.crash is.crash was.contents is.contents taken

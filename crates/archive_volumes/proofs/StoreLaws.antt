@@ -168,7 +168,7 @@ module _ {D : Type 0} (d : Ghosts D) (laws : DiskLaws d) where
     pub store_kept : KeepsCheckpoints (crash_of d old) (crash_of d new)
     store_kept files has = quiet.kept files (writes.kept files has)
 
-    pub store_moves : HasIds was.seen → Moves (crash_of d old) (crash_of d new) (MayLeave was taken)
+    pub store_moves : HasIds was.seen → Moves (crash_of d old) (crash_of d new) (MayLeave was.limits.volume_bytes was.seen taken)
     store_moves ids t x le o = ⊎_elim
         (λ before. ⊎_elim (λ first. inl first) (λ none. absurd none) (quiet.moves t x le before))
         (λ which. inr (⊎_elim

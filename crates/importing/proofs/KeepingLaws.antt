@@ -30,7 +30,7 @@ on_way_before [] step x on = absurd on
 on_way_before (s ∷ steps) step x (inl may) = inl may
 on_way_before (s ∷ steps) step x (inr on) = inr (on_way_before steps step x on)
 
-on_way_last : (steps : List Step) (step : Step) (x : Book) → MayLeave step.before step.taken x → IsOnWay (steps ++ step ∷ []) x
+on_way_last : (steps : List Step) (step : Step) (x : Book) → MayLeave step.before.limits.volume_bytes step.before.seen step.taken x → IsOnWay (steps ++ step ∷ []) x
 on_way_last [] step x may = inl may
 on_way_last (s ∷ steps) step x may = inr (on_way_last steps step x may)
 

@@ -40,13 +40,13 @@ HaveIds (step ∷ steps) = HasIds step.before.seen × HaveIds steps
 -- storing one of them, wherever it is stopped, may leave the book
 abbrev pub IsOnWay : List Step → Book → Type 0
 IsOnWay [] x = ⊥
-IsOnWay (step ∷ steps) x = MayLeave step.before step.taken x ⊎ IsOnWay steps x
+IsOnWay (step ∷ steps) x = MayLeave step.before.limits.volume_bytes step.before.seen step.taken x ⊎ IsOnWay steps x
 
 -- and storing the one that was refused
 abbrev pub IsOfRefused : Option StoreFault → List Taken → Contents → Book → Type 0
 IsOfRefused None rest reached x = ⊥
 IsOfRefused (Some fault) [] reached x = ⊥
-IsOfRefused (Some fault) (refused ∷ others) reached x = MayLeave reached refused x
+IsOfRefused (Some fault) (refused ∷ others) reached x = MayLeave reached.limits.volume_bytes reached.seen refused x
 
 -- Which books may be opened behind them, by those that might be before: behind a store the last book alone.
 abbrev pub OpensBehind : List Step → Contents → (Book → Type 0) → Book → Type 0

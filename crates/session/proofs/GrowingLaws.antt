@@ -1,7 +1,7 @@
 -- A book only grows while a connection is served, and so does what is shown.
 use Rattle.std.proofs.Common.{◌≡◌, inr, inl, ◌⊎◌, ℕ, ◌+◌, ◌≤◌, IsTrue, List, [], ◌∷◌, length, Err, refl, sym, ap, subst, arith, length-append}
 use Rattle.archive_shelf.proofs.CallLaws.{begins_both, leads_begins, leads_same, past_begins, shown_same}
-use Rattle.archive_shelf.specs.Contents.{Begins}
+use Rattle.archive_shelf.specs.Contents.{Begins, Contents}
 use Rattle.archive_shelf.specs.Laws.{BooksLeadToThemselves, GainsGrow, LeadingGrows, StoresGrow}
 use Rattle.archive_shelf.specs.Openings.{HasIds}
 use Rattle.archive_shelf.specs.declared.fault.StoreFault.TheVariants as store_fault
@@ -14,7 +14,6 @@ use Rattle.capture.specs.declared.refusal.Refusal.{Refusal}
 use Rattle.capture.specs.declared.refusal.Refusal.TheVariants.{Malformed, TargetRefused, BadTime, BadAcceptDatetime, BadQuery, NotAForm, NoCapture, NoSuch, MethodRefused, BodyTooLong, HeadTooLong, ClockRange, ConnectRefused, SecureRefused, CodingRefused, DialFault, OriginFault, OriginEnded, OriginMalformed, OriginTooLong, TooManyInterim, Full, DiskFault, Damaged}
 use Rattle.http_head.specs.declared.head.Received.{Received}
 use Rattle.session.specs.Exchanges.{Exchange, Fails, Passes, IsPassedOn, IsReply}
-use Rattle.session.specs.Images.{contents_at}
 use Rattle.session.specs.Laws.{CoursesGrow, CoursesShowOn, CoursesCountFaults, CoursesStayConsistent, IdsDifferOnTheWay}
 use Rattle.session.specs.Rounds.{Round, Outcome, Undecided, Refused, Exchanged, Visited, IsDecided, origin_fault, origin_faults, disk_fault, disk_faults}
 use Rattle.session.proofs.GainLaws.{met_both, none_met}
@@ -77,6 +76,10 @@ decided_leaves terms r (Exchanged e (Passes received payload)) h = Stored_it e r
 decided_leaves terms r (Visited q reply) h = Stayed h.1.untouched
 
 -- ---- books
+
+-- what a shelf with this view tells
+abbrev contents_at : Terms → View → Contents
+contents_at terms view = record { tells = terms.tells; seen = view.book; shown = view.shown; mine = []; limits = terms.limits }
 
 -- a store that the disk refused leaves a book that has grown
 refused_grows : Growing → (terms : Terms) (e : Exchange) (traces : Traces) → IsReply terms e (Fails DiskFault) traces

@@ -1,6 +1,5 @@
 -- Which books a stop may leave, while a connection is served over an archive alone.
 use Rattle.std.specs.Prelude.{◌≡◌, ◌≢◌, ◌⊎◌, ◌≤◌, List, [], ◌∷◌, Contains, IsTrue, Ok, ⊤}
-use Rattle.archive_shelf.specs.Contents.{Contents}
 use Rattle.archive_shelf.specs.Openings.{SameBook, HasIds, Moves, StaysCovered, MayLeave}
 use Rattle.archive_shelf.specs.Storing.{Storing, stored_by}
 use Rattle.archive_shelf.specs.Told.{Told}
@@ -10,7 +9,7 @@ use Rattle.http_head.specs.declared.head.Received.{Received}
 use Rattle.warc_journal.specs.Extents.{cdxj_files}
 use Rattle.session.specs.Exchanges.{Exchange, Fails, Passes, Fetched, HasRoom, taken_of}
 use Rattle.session.specs.Rounds.{Outcome, Exchanged, Round}
-use Rattle.session.specs.Traces.{Terms, View, Traces}
+use Rattle.session.specs.Traces.{Terms, Traces}
 
 -- what a round did to the archive: nothing, it stored the capture of an exchange, or the disk refused that
 pub data Deed : Type 0 where
@@ -24,17 +23,15 @@ deed_of (Exchanged e (Fails DiskFault)) = IsDenied e
 deed_of (Exchanged e (Passes received payload)) = Stores e received
 deed_of other = NoDeed
 
--- what a shelf with this view tells
-abbrev pub contents_at : Terms → View → Contents
-contents_at terms view = record { tells = terms.tells; seen = view.book; shown = view.shown; mine = []; limits = terms.limits }
-
 -- storing the capture of an exchange, wherever it is stopped, may leave the book
 abbrev pub MayBeLeft : Terms → Traces → Deed → Book → Type 0
 MayBeLeft terms traces NoDeed x = ⊥
 MayBeLeft terms traces (Stores e received) x =
-    (fetched : Fetched e (Ok received) traces) × MayLeave (contents_at terms traces.before) (taken_of e fetched.date received) x
+    (fetched : Fetched e (Ok received) traces)
+    × MayLeave terms.limits.volume_bytes traces.before.book (taken_of e fetched.date received) x
 MayBeLeft terms traces (IsDenied e) x =
-    (room : HasRoom terms e traces) × MayLeave (contents_at terms traces.before) (taken_of e room.fetched.date room.received) x
+    (room : HasRoom terms e traces)
+    × MayLeave terms.limits.volume_bytes traces.before.book (taken_of e room.fetched.date room.received) x
 
 -- one of the rounds may leave the book
 abbrev pub IsPassed : Terms → List Round → Book → Type 0
