@@ -31,12 +31,12 @@ pub record IsDamaged (tells : Bool) (kept : List ℕ) (found : Option (List ℕ)
   pub other : found ≢ Some kept
 
 -- the capture is stored by the rule, and the receipt names what it refers to
-pub record IsByRule (limit : ℕ) (found : Book) (taken : Taken) (receipt : Receipt) (after : Book) : Type 0 where
-  pub storing : Storing limit found taken
-  pub same_as : receipt.same_as ≡ storing.same
-  pub stored : after ≡ stored_by storing
+abbrev pub IsByRule : (limit : ℕ) → Book → Taken → Receipt → Book → Type 0
+IsByRule limit found taken receipt after =
+    (storing : Storing limit found taken) × (receipt.same_as ≡ storing.same) × (after ≡ stored_by storing)
 
--- The capture was stored, and it alone, in the book that the call found, which wasn't full.
+-- The capture was stored, and it alone, in the book that the call found, which wasn't full: where the disk is told, by the rule, and the receipt names what
+-- the capture refers to.
 pub record HasStored (alone : Bool) (taken : Taken) (was is : Contents) (receipt : Receipt) : Type 0 where
   pub found : Book
   pub led : Leads alone was.seen found
@@ -44,7 +44,8 @@ pub record HasStored (alone : Bool) (taken : Taken) (was is : Contents) (receipt
   pub number : receipt.number ≡ length (captures found)
   pub refers : CanRefer taken.cut found receipt.same_as
   pub gained : Gains found (as_stored taken receipt.same_as) is.seen
-  pub by_rule : IsTrue was.tells → IsByRule was.limits.volume_bytes found taken receipt is.seen
+  pub by_rule : IsTrue was.tells
+      → (storing : Storing was.limits.volume_bytes found taken) × (receipt.same_as ≡ storing.same) × (is.seen ≡ stored_by storing)
   pub shown : LeadsShown alone (Some receipt.number) was.shown is.shown
   pub others : is ≡ record was { seen = is.seen; shown = is.shown; mine = was.mine ++ receipt.number ∷ [] }
 

@@ -129,16 +129,16 @@ module _ {D : Type 0} (d : Ghosts D) (journal : Journal D) (book : Book) (taken 
       → IfSome prepared (λ (p : Prepared). p.shadow.born ≡ taken.date) → IsDecided limit book (last_len journal) (length group) prepared
       → (receipt : Receipt) (after : Book) → receipt.same_as ≡ same
       → after ≡ with_capture (with_prepared book prepared) (as_stored taken same) → IsByRule limit book taken receipt after
-  by_rule add count limit prepared born decided receipt after names stored_is = record {
-    storing = record {
+  by_rule add count limit prepared born decided receipt after names stored_is = (
+    record {
       same = same;
       unfilled = with_prepared book prepared;
       refers = record { payload = payload; has = has; refers = refers };
       roomy = unfilled add count limit prepared born decided;
-    };
-    same_as = names;
-    stored = stored_is;
-  }
+    },
+    names,
+    stored_is,
+  )
 
   -- and it stays sound
   pub sound_after : CapturesAddTheirGroup → StoringKeepsSoundness → volumes journal ≡ length book.volumes → (limit : ℕ) (prepared : Option Prepared)

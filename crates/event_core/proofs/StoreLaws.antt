@@ -102,15 +102,15 @@ module _ (namespace : List ℕ) (old new : Told) (was : Standing) where
           tells = ap (λ (c : Contents). c.tells) h.others;
           limits_are = ap (λ (c : Contents). c.limits) h.others;
         } in record {
-          book = stored_by by.storing;
+          book = stored_by by.0;
           other = None;
-          stands = stands_in remains (stored_by by.storing) None by.stored (stored_grows by.storing)
-              (subst (λ (b : Book). IsState new.crash b None) by.stored only);
+          stands = stands_in remains (stored_by by.0) None by.2 (stored_grows by.0)
+              (subst (λ (b : Book). IsState new.crash b None) by.2 only);
           stores = λ n. record {
             room = subst (λ (b : Book). length (captures b) < C.limits.captures) h.led h.not_full;
-            storing = by.storing;
+            storing = by.0;
             number = h.number ∙ ap (λ (b : Book). length (captures b)) h.led;
-            same_as = by.same_as;
+            same_as = by.1;
             left = refl;
           };
         }

@@ -56,7 +56,7 @@ stored true was is seed count replayed follows taken receipt next has just befor
     let rule = has.by_rule filled.told in
     let pair : (s : Storing was.contents.limits.volume_bytes has.found (taken_of seed count)) × (is.contents.seen ≡ stored_by s) =
     subst (λ (t : Taken). (s : Storing was.contents.limits.volume_bytes has.found t) × (is.contents.seen ≡ stored_by s)) next
-    (rule.storing, rule.stored) in
+    (rule.0, rule.2) in
     let found : HoldsFirst was.contents.limits.volume_bytes filled.namespace seed count has.found =
     subst (λ b. HoldsFirst was.contents.limits.volume_bytes filled.namespace seed count b) (sym has.led) filled.holds in
     let held : HoldsFirst was.contents.limits.volume_bytes filled.namespace seed (suc count) is.contents.seen =

@@ -395,7 +395,7 @@ stored_once : CapturesAreStoredOneWay → (limit : ℕ) (book other : Book) (tak
 stored_once one limit book other taken took a b after behind e d h k =
     let same : IsByRule limit book taken b behind =
     subst (λ (x : Book). IsByRule limit x taken b behind) (sym e) (subst (λ (t : Taken). IsByRule limit other t b behind) (sym d) k) in
-    h.stored ∙ (one limit book taken h.storing same.storing).stored ∙ sym same.stored
+    h.2 ∙ (one limit book taken h.0 same.0).stored ∙ sym same.2
 
 entries_once : BooksHaveOneListOfEntries → (book other : Book) (shown also : List Facts) → book ≡ other → AreEntries book shown → AreEntries other also
     → shown ≡ also

@@ -107,4 +107,4 @@ by_rule laws limit book taken storing after payload e has sound =
 
 pub stored_payloads : Storage → StoredCapturesHaveTheirPayload
 stored_payloads laws limit book taken receipt after payload rule has sound =
-    by_rule laws limit book taken rule.storing after payload rule.stored has sound
+    by_rule laws limit book taken rule.0 after payload rule.2 has sound

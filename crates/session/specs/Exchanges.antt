@@ -2,10 +2,10 @@
 -- clock, for the dialer, for what the origin sent, for want of room, for the disk.
 use Rattle.std.specs.Prelude.{◌≡◌, ◌⊎◌, ℕ, ◌<◌, ◌≤◌, List, [], ◌∷◌, length, IsTrue, Result, Ok, Err, Some, None}
 use Rattle.cdxj_index.specs.OfBook.{AreEntries}
-use Rattle.archive_shelf.specs.Answers.{IsByRule, IsDamaged, HasVolumeAlone}
+use Rattle.archive_shelf.specs.Answers.{IsDamaged, HasVolumeAlone}
 use Rattle.archive_shelf.specs.Comparing.{CanRefer}
 use Rattle.archive_shelf.specs.Contents.{LeadsShown}
-use Rattle.archive_shelf.specs.Storing.{Gains, as_stored}
+use Rattle.archive_shelf.specs.Storing.{Gains, as_stored, Storing, stored_by}
 use Rattle.archive_shelf.specs.declared.receipt.Receipt.{Receipt}
 use Rattle.capture.specs.Captures.{captures, IsPayloadOf}
 use Rattle.capture.specs.Methods.{asks_for_head}
@@ -82,7 +82,8 @@ pub record IsPassedOn (terms : Terms) (e : Exchange) (received : Received) (payl
   pub refers : CanRefer received.cut traces.before.book receipt.same_as
   pub gained : Gains traces.before.book (as_stored (taken_of e fetched.date received) receipt.same_as) traces.after.book
   pub by_rule : IsTrue terms.tells
-      → IsByRule terms.limits.volume_bytes traces.before.book (taken_of e fetched.date received) receipt traces.after.book
+      → (storing : Storing terms.limits.volume_bytes traces.before.book (taken_of e fetched.date received))
+      × (receipt.same_as ≡ storing.same) × (traces.after.book ≡ stored_by storing)
   pub there : IsTrue terms.tells → IsPayloadOf traces.after.book receipt.number payload
   pub shown : LeadsShown terms.alone (Some receipt.number) traces.before.shown traces.after.shown
   pub consistent : IsTrue terms.alone → IsTrue terms.tells → AreEntries traces.after.book traces.after.shown
