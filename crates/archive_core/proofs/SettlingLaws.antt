@@ -16,8 +16,8 @@ use Rattle.archive_volumes.specs.declared.volumes.Volumes.{Volumes}
 use Rattle.archive_core.specs.Finished.{FirstAreFinished, HasCheckpoint}
 use Rattle.archive_core.specs.Holdings.{Holdings, IsArchive}
 use Rattle.archive_core.specs.Looking.{OnlyLooks}
-use Rattle.archive_core.specs.Settling.{HasWithout, LeavesCheckpoints, Settles, SettlesOn, reach}
-use Rattle.archive_core.specs.steps.Supplying.{GoesThrough, KeepsVolumes, KnowsMore, IsAsBefore, shelved_as}
+use Rattle.archive_core.specs.Settling.{HasWithout, LeavesCheckpoints, SettlesOn, reach}
+use Rattle.archive_core.specs.steps.Supplying.{GoesThrough, KeepsVolumes, KnowsMore, IsAsBefore, shelved_as, Settles}
 use Rattle.archive_core.proofs.KeepingLaws.{measured_kept, opens_told, quiet_told, texts_kept}
 
 answer : Result ℕ CheckpointFault → ℕ
@@ -78,11 +78,11 @@ module _ {D : Type 0} (d : Ghosts D) (laws : DiskLaws d) (base : Holdings D) (ol
     settles : (r : Result ℕ CheckpointFault) → IsTrue base.told → KnowsMore (book_of old.held) known now r
         → GoesThrough d (shelved_as base.told (book_of old.held) base.spots) now (disk_of old.journal) (disk_of new.journal) r
         → IfOk r (Settles d (book_of old.held) (disk_of old.journal) (disk_of new.journal))
-    settles (Ok n) told more through = record {
-      reading = λ k less. through.settled told (d.reading (disk_of new.journal)) (reads (is.holds.tells told)) k (omega (arith, less, more.all));
-      images = λ image left k less. through.settled told image left k (omega (arith, less, more.all));
-      number = subst (λ (k : ℕ). HasWithout (λ j. HasCheckpoint (book_of old.held) j (d.reading (disk_of old.journal))) k n) more.all (through.counted told);
-    }
+    settles (Ok n) told more through = (
+      λ k less. through.settled told (d.reading (disk_of new.journal)) (reads (is.holds.tells told)) k (omega (arith, less, more.all)),
+      λ image left k less. through.settled told image left k (omega (arith, less, more.all)),
+      subst (λ (k : ℕ). HasWithout (λ j. HasCheckpoint (book_of old.held) j (d.reading (disk_of old.journal))) k n) more.all (through.counted told),
+    )
     settles (Err fault) told more through = tt
 
     -- how many files are others than before

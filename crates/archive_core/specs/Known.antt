@@ -36,7 +36,7 @@ opening_of disk depth asked known = record { disk = disk; depth = depth; asked =
 
 -- it is to be opened by its checkpoints
 abbrev pub by_checkpoints : {D : Type 0} → D → Option (List ℕ) → Option Book → Opening D
-by_checkpoints disk asked known = opening_of disk depths.Checkpoints asked known
+by_checkpoints disk asked known = record { disk = disk; depth = depths.Checkpoints; asked = asked; known = known }
 
 -- what a read gives stands for this sound book, whose ids differ, and whose namespace is asked for, or none is
 pub record IsKnown {D : Type 0} (d : Ghosts D) (disk : D) (asked : Option (List ℕ)) (book : Book) : Type 0 where

@@ -6,8 +6,8 @@ use Rattle.archive_core.proofs.FinishedLaws.{same_checkpoints_of}
 use Rattle.archive_core.specs.Holdings.{Holdings, contents_of}
 use Rattle.archive_core.specs.Known.{HasCheckpointsOfKnown, IsReopenedKnown, Opening, by_checkpoints, told_at}
 use Rattle.archive_core.specs.Finished.{FirstAreFinished}
-use Rattle.archive_core.specs.Settling.{KeepsSettled, Settles, SettlesOn, reach}
-use Rattle.archive_core.specs.steps.Supplying.{OpensNoMore, shelved_as}
+use Rattle.archive_core.specs.Settling.{KeepsSettled, SettlesOn, reach}
+use Rattle.archive_core.specs.steps.Supplying.{OpensNoMore, shelved_as, Settles}
 use Rattle.archive_volumes.specs.Spots.{AreSpotsOf}
 use Rattle.archive_volumes.specs.Volumes.{OpensNear, crash_of, muted}
 use Rattle.archive_opening.specs.Opening.{IsIn}
@@ -202,7 +202,7 @@ module _ {D : Type 0} (disks : Disks D) {before : Holdings D} {said status : Sta
   closed_all n done told image left =
       let settles = subst (λ (r : Result ℕ CheckpointFault). IfOk r (Settles disks before.book (disk_of before.journal) (disk_of c.after.journal))) done
       (c.settles.settles told) in
-      settles.images image (there image left)
+      settles.1 image (there image left)
 
   -- a fault of the disk was counted
   pub closed_rose : c.answer ≡ Err checkpoints.DiskFault → Rose (disks.faults (disk_of before.journal)) (disks.faults is)

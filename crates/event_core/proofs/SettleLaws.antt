@@ -15,9 +15,9 @@ use Rattle.archive_shelf.specs.Openings.{IsEarlier, Keeps}
 use Rattle.archive_shelf.specs.Told.{ShowsItsBook}
 use Rattle.archive_core.specs.Finished.{HasCheckpoint, FirstAreFinished}
 use Rattle.archive_core.specs.Holdings.{Holdings}
-use Rattle.archive_core.specs.Settling.{HasWithout, KeepsSettled, Settles, SettlesOn, Shelved, reach}
+use Rattle.archive_core.specs.Settling.{HasWithout, KeepsSettled, SettlesOn, Shelved, reach}
 use Rattle.archive_core.specs.Told.{told_of}
-use Rattle.archive_core.specs.steps.Supplying.{HasSupplied, shelved_as}
+use Rattle.archive_core.specs.steps.Supplying.{HasSupplied, shelved_as, Settles}
 use Rattle.event_core.proofs.ImageLaws.{count_files, file_at, finished_of, finished_sealed, right_files, right_image}
 use Rattle.event_core.proofs.StandLaws.{kept_state}
 use Rattle.event_core.proofs.TallyLaws.{counted_may, least_may, open_tallied, open_tally, settled_tallied, settled_tally}
@@ -153,7 +153,7 @@ module _ {D : Type 0} (d : Ghosts D) (was is : Holdings D) (result : Result ℕ 
       let book : was.book ≡ s.book = stands.book in
       let counted = counted_may (told_of d was).crash.checkpoints (sealed s.book) s.tally (cdxj_files first) n stands.tallied (old_left first first_now)
       (count_files s.book first (sealed s.book) n (old_right first first_now)
-      (subst (λ (b : Book). HasWithout (λ k. HasCheckpoint b k first) (sealed b) n) book settles.number)) in
+      (subst (λ (b : Book). HasWithout (λ k. HasCheckpoint b k first) (sealed b) n) book settles.2)) in
       let tally = settled_tally (sealed s.book) (cdxj_files (d.reading (disk_of is.journal))) in record {
         is = record s { tally = tally };
         stands = stands_with tally
@@ -162,7 +162,7 @@ module _ {D : Type 0} (d : Ghosts D) (was is : Holdings D) (result : Result ℕ 
             (λ files left k less.
             subst (λ (fs : List (List ℕ)). HasFinished fs k) left.3
             (finished_of s.book left.1 k
-            (subst (λ (b : Book). FirstAreFinished b (length b.volumes - 1) left.1) book (settles.images left.1 left.2) k (omega (arith, less)))))
+            (subst (λ (b : Book). FirstAreFinished b (length b.volumes - 1) left.1) book (settles.1 left.1 left.2) k (omega (arith, less)))))
             only_sealed);
         steps = λ c may. (
           sealed s.book - n,

@@ -7,7 +7,7 @@ use Rattle.outside.specs.declared.sink.Sink.{Ghosts as Sinks}
 use Rattle.proxy_run.specs.Checks.{IsCounted}
 use Rattle.proxy_run.specs.Follows.{Follows}
 use Rattle.importing.specs.Imports.{Imports}
-use Rattle.archive_core.specs.Known.{by_checkpoints, opening_of}
+use Rattle.archive_core.specs.Known.{by_checkpoints}
 use Rattle.command.specs.Objects.{Kinds, Objects, UsesFirst, objects_of, with_one}
 use Rattle.proxy_run.specs.Pipes.{Pipes, Refuses}
 use Rattle.command.specs.Printing.{LacksMemory, Prints, printed_as}
@@ -55,7 +55,7 @@ module _ {D G L P N M C O : Type 0} (kinds : Kinds D G L P N M C O) (known : Opt
   Runs (Some (Import namespace)) site was is result = HasTakenIn namespace was is result ⊎ Refuses kinds (by_checkpoints was.disk (Some namespace) known) was is result
   Runs (Some Check) site was is result =
       (IsCounted kinds.disks kinds.sinks was.disk is.disk (printed_as was.out is.out result) × (is ≡ record was { disk = is.disk; out = is.out }))
-      ⊎ Refuses kinds (opening_of was.disk Whole None None) was is result
+      ⊎ Refuses kinds (record { disk = was.disk; depth = Whole; asked = None; known = None }) was is result
   Runs (Some (Follow namespace)) None was is result = Misspells was is result ⊎ ((result ≡ status.Memory) × (is ≡ was))
   Runs (Some (Follow namespace)) (Some site) was is result =
       HasReplicated namespace site was is result ⊎ Refuses kinds (by_checkpoints was.disk (Some namespace) known) was is result ⊎ ((result ≡ status.Memory) × (is ≡ was))
