@@ -13,7 +13,7 @@ use Rattle.proxy_run.specs.Pipes.{Pipes, Refuses}
 use Rattle.command.specs.Printing.{LacksMemory, Prints, printed_as}
 use Rattle.proxy_run.specs.Serves.{LacksShelves, Serves}
 use Rattle.command.specs.Texts.{usage}
-use Rattle.proxy_run.specs.Trials.{Tries}
+use Rattle.proxy_run.specs.Trials.{IsTried}
 use Rattle.proxy_run.specs.Verifies.{IsVerified}
 use Rattle.command.specs.declared.status.Status.{Status}
 use Rattle.command.specs.declared.status.Status.TheVariants as status
@@ -64,7 +64,9 @@ module _ {D G L P N M C O : Type 0} (kinds : Kinds D G L P N M C O) (known : Opt
       Serves kinds known (record { asked = Some namespace; site = site; workers = workers }) was is result
       ⊎ LacksShelves kinds known (Some namespace) was is result
       ⊎ Refuses kinds (by_checkpoints was.disk (Some namespace) known) was is result ⊎ ((result ≡ status.Memory) × (is ≡ was))
-  Runs (Some (Trial count seed)) site was is result = Tries kinds.sinks count seed was.out is.out result × (is ≡ record was { out = is.out })
+  Runs (Some (Trial count seed)) site was is result =
+      (((text : List ℕ) × IsTried count seed text × Prints kinds.sinks status.Done text was.out is.out result) ⊎ LacksMemory kinds.sinks was.out is.out result)
+      × (is ≡ record was { out = is.out })
   Runs (Some (Verify workers)) site was is result =
       (IsVerified kinds.disks kinds.sinks (by_checkpoints was.disk None known) is.disk (printed_as was.out is.out result) × (is ≡ record was { disk = is.disk; out = is.out }))
       ⊎ Refuses kinds (by_checkpoints was.disk None known) was is result
