@@ -84,7 +84,7 @@ module _ {D : Type 0} (d : Ghosts D) (laws : DiskLaws d) (was : Holdings D) (jou
       → Stores d was (record was { journal = journal }) taken (Err fault)
   fault_by not_full (stores.Full count limit) looks counts = absurd looks
   fault_by not_full stores.DiskFault looks counts =
-      faulty stores.DiskFault (record { found = was.book; led = refl; not_full = not_full; left = inl refl; shown = refl; others = refl }) counts
+      faulty stores.DiskFault (was.book, refl, not_full, inl refl, refl, refl) counts
   fault_by not_full (stores.Damaged at kept found) looks counts =
       faulty (stores.Damaged at kept found) (record { seen = refl; shown = refl; others = refl }, not_full, looks.0, looks.1) counts
   fault_by not_full stores.Memory looks counts = faulty stores.Memory (record { seen = refl; shown = refl; others = refl }) counts

@@ -455,23 +455,23 @@ module _ {D : Type 0} (d : Ghosts D) (basis : StoringBasis) (was : Holdings D) (
             let quiet = quiet_itself (muted was.told d) laws_told old in
             record {
               told = record {
-                leaves = record {
-                  found = book;
-                  led = refl;
-                  not_full = u.not_full;
-                  left = ⊎_elim
+                leaves = (
+                  book,
+                  refl,
+                  u.not_full,
+                  ⊎_elim
                       (λ (same : after ≡ book). inl same)
                       (λ (more : after ≡ room). left_by (muted was.told d) was.limits.volume_bytes book incoming.taken ready.prepared (with_capture room (stored_in ready.stored)) after u.ready_is.born takes more)
-                      left;
-                  shown = ap numbered index_stays;
-                  others = λ i. record {
+                      left,
+                  ap numbered index_stays,
+                  λ i. record {
                     tells = was.told;
                     seen = after;
                     shown = numbered index;
                     mine = numbers_from was.found (length (captures_stay i) - was.found);
                     limits = was.limits;
-                  };
-                };
+                  },
+                );
                 reading = λ alone told. ((λ none. absurd none), others (u.is.holds.tells told));
                 faults = (counts.later, counts.rose);
                 crash = record {

@@ -288,7 +288,7 @@ shows_behind : (alone : Bool) (taken : Taken) (was is : Contents) (result : Resu
     → Begins was.shown is.shown
 shows_behind alone taken was is (Ok receipt) h = past_begins alone receipt.number was.shown is.shown h.shown
 shows_behind alone taken was is (Err (stores.Full count limit)) h = leads_begins alone was.shown is.shown h.0.shown
-shows_behind alone taken was is (Err stores.DiskFault) h = leads_begins alone was.shown is.shown h.shown
+shows_behind alone taken was is (Err stores.DiskFault) h = leads_begins alone was.shown is.shown h.4
 shows_behind alone taken was is (Err (stores.Damaged number kept found)) h = leads_begins alone was.shown is.shown h.0.shown
 shows_behind alone taken was is (Err stores.Memory) h = leads_begins alone was.shown is.shown h.shown
 
@@ -296,7 +296,7 @@ mine_behind : (alone : Bool) (taken : Taken) (was is : Contents) (result : Resul
     → Begins was.mine is.mine
 mine_behind alone taken was is (Ok receipt) h = record { rest = receipt.number ∷ []; joined = ap (λ (x : Contents). x.mine) h.others }
 mine_behind alone taken was is (Err (stores.Full count limit)) h = begins_same was.mine is.mine (ap (λ (x : Contents). x.mine) h.0.others)
-mine_behind alone taken was is (Err stores.DiskFault) h = begins_same was.mine is.mine (ap (λ (x : Contents). x.mine) h.others)
+mine_behind alone taken was is (Err stores.DiskFault) h = begins_same was.mine is.mine (ap (λ (x : Contents). x.mine) h.5)
 mine_behind alone taken was is (Err (stores.Damaged number kept found)) h = begins_same was.mine is.mine (ap (λ (x : Contents). x.mine) h.0.others)
 mine_behind alone taken was is (Err stores.Memory) h = begins_same was.mine is.mine (ap (λ (x : Contents). x.mine) h.others)
 
@@ -304,7 +304,7 @@ pub stored_tells : (alone : Bool) (taken : Taken) (was is : Contents) (result : 
     → is.tells ≡ was.tells
 stored_tells alone taken was is (Ok receipt) h = ap (λ (x : Contents). x.tells) h.others
 stored_tells alone taken was is (Err (stores.Full count limit)) h = ap (λ (x : Contents). x.tells) h.0.others
-stored_tells alone taken was is (Err stores.DiskFault) h = ap (λ (x : Contents). x.tells) h.others
+stored_tells alone taken was is (Err stores.DiskFault) h = ap (λ (x : Contents). x.tells) h.5
 stored_tells alone taken was is (Err (stores.Damaged number kept found)) h = ap (λ (x : Contents). x.tells) h.0.others
 stored_tells alone taken was is (Err stores.Memory) h = ap (λ (x : Contents). x.tells) h.others
 
@@ -312,7 +312,7 @@ stored_limits : (alone : Bool) (taken : Taken) (was is : Contents) (result : Res
     → is.limits ≡ was.limits
 stored_limits alone taken was is (Ok receipt) h = ap (λ (x : Contents). x.limits) h.others
 stored_limits alone taken was is (Err (stores.Full count limit)) h = ap (λ (x : Contents). x.limits) h.0.others
-stored_limits alone taken was is (Err stores.DiskFault) h = ap (λ (x : Contents). x.limits) h.others
+stored_limits alone taken was is (Err stores.DiskFault) h = ap (λ (x : Contents). x.limits) h.5
 stored_limits alone taken was is (Err (stores.Damaged number kept found)) h = ap (λ (x : Contents). x.limits) h.0.others
 stored_limits alone taken was is (Err stores.Memory) h = ap (λ (x : Contents). x.limits) h.others
 

@@ -149,7 +149,7 @@ stores_grow itself goes_on alone taken was is (Ok receipt) left =
     (gains_grow goes_on left.found is.seen (as_stored taken receipt.same_as) left.gained)
 stores_grow itself goes_on alone taken was is (Err (Full count limit)) left = leading_grows itself alone was.seen is.seen left.0.seen
 stores_grow itself goes_on alone taken was is (Err DiskFault) left =
-    goes_on was.seen left.found is.seen (leading_grows itself alone was.seen left.found left.led)
-    (left_grows itself left.found is.seen was.tells was.limits.volume_bytes taken left.left)
+    goes_on was.seen left.0 is.seen (leading_grows itself alone was.seen left.0 left.1)
+    (left_grows itself left.0 is.seen was.tells was.limits.volume_bytes taken left.3)
 stores_grow itself goes_on alone taken was is (Err (Damaged number kept found)) left = leading_grows itself alone was.seen is.seen left.0.seen
 stores_grow itself goes_on alone taken was is (Err Memory) left = leading_grows itself alone was.seen is.seen left.seen

@@ -54,21 +54,16 @@ pub record HasVolumeAlone (tells : Bool) (limit : ℕ) (found : Book) (taken : T
   pub volume : after ≡ with_volume found taken.date
   pub needed : IsTrue tells → (same : Option ℕ) × IsSameAs found taken same × NeedsVolume limit found (as_stored taken same) true
 
--- The disk failed, and nothing was stored, but a volume that was needed may be there.
-pub record IsRefusedByDisk (alone : Bool) (taken : Taken) (was is : Contents) : Type 0 where
-  pub found : Book
-  pub led : Leads alone was.seen found
-  pub not_full : length (captures found) < was.limits.captures
-  pub left : (is.seen ≡ found) ⊎ HasVolumeAlone was.tells was.limits.volume_bytes found taken is.seen
-  pub shown : LeadsShown alone None was.shown is.shown
-  pub others : is ≡ record was { seen = is.seen; shown = is.shown }
-
--- What a store leaves. It is full exactly where the book that the call found is; want of memory may be answered anywhere.
+-- What a store leaves. It is full exactly where the book that the call found is; want of memory may be answered anywhere. Where the disk failed nothing was
+-- stored, but a volume that was needed may be there.
 abbrev pub StoreLeaves : Bool → Taken → Contents → Contents → Result Receipt StoreFault → Type 0
 StoreLeaves alone taken was is (Ok receipt) = HasStored alone taken was is receipt
 StoreLeaves alone taken was is (Err (stores.Full count limit)) =
     Stays alone was is × (was.limits.captures ≤ length (captures is.seen)) × (count ≡ length (captures is.seen)) × (limit ≡ was.limits.captures)
-StoreLeaves alone taken was is (Err stores.DiskFault) = IsRefusedByDisk alone taken was is
+StoreLeaves alone taken was is (Err stores.DiskFault) =
+    (found : Book) × Leads alone was.seen found × (length (captures found) < was.limits.captures)
+    × ((is.seen ≡ found) ⊎ HasVolumeAlone was.tells was.limits.volume_bytes found taken is.seen)
+    × LeadsShown alone None was.shown is.shown × (is ≡ record was { seen = is.seen; shown = is.shown })
 StoreLeaves alone taken was is (Err (stores.Damaged number kept found)) =
     Stays alone was is × (length (captures is.seen) < was.limits.captures) × (number < length (captures is.seen)) × IsDamaged was.tells kept found
 StoreLeaves alone taken was is (Err stores.Memory) = Stays alone was is

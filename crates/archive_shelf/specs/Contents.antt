@@ -45,23 +45,14 @@ pub record Stays (alone : Bool) (was is : Contents) : Type 0 where
   pub shown : LeadsShown alone None was.shown is.shown
   pub others : is ≡ record was { seen = is.seen; shown = is.shown }
 
--- the entries of the book are the first of those that are shown, which stand in order of number; what stands behind them is
--- of later captures
-pub record BeginsWithEntries (book : Book) (shown : List Facts) : Type 0 where
-  pub entries : List Facts
-  pub are : AreEntries book entries
-  pub first : Begins entries shown
-  pub in_order : IsStrictlySortedBy by_number shown
-  pub behind : (entry : Facts) → Contains first.rest entry → length (captures book) ≤ entry.number
-  -- none is of no capture: what is shown are the entries of a book that has grown from this one
-  pub later : Book
-  pub grown : Grows book later
-  pub all : AreEntries later shown
-
--- what is shown of the book: alone its entries, in company these and perhaps more
+-- What is shown of the book. Alone that is its entries. In company these are the first, and all stand in order of number; what stands behind them is of later
+-- captures, and none of no capture, since all are the entries of a book that has grown from this one.
 abbrev pub Shows : Bool → Book → List Facts → Type 0
 Shows true book shown = AreEntries book shown
-Shows false book shown = BeginsWithEntries book shown
+Shows false book shown =
+    (entries : List Facts) × AreEntries book entries × (first : Begins entries shown) × IsStrictlySortedBy by_number shown
+    × ((entry : Facts) → Contains first.rest entry → length (captures book) ≤ entry.number)
+    × (later : Book) × Grows book later × AreEntries later shown
 
 -- Where the disk is told, the book is sound, and alone its entries are what is shown.
 pub record IsConsistent (alone : Bool) (now : Contents) : Type 0 where

@@ -9,7 +9,7 @@ use Rattle.capture.specs.declared.book.Book.{Book}
 use Rattle.capture.specs.declared.captured.Taken.{Taken}
 use Rattle.capture.specs.declared.limits.Limits.{Limits}
 use Rattle.archive_shelf.proofs.StoringLaws.{gains_grow, storing_gains, volume_grows}
-use Rattle.archive_shelf.specs.Answers.{HasStored, IsByRule, IsRefusedByDisk, StoreLeaves, WritesNone, is_store_fault}
+use Rattle.archive_shelf.specs.Answers.{HasStored, IsByRule, StoreLeaves, WritesNone, is_store_fault}
 use Rattle.archive_shelf.specs.Contents.{Contents, Stays}
 use Rattle.archive_shelf.specs.Laws.{CapturesAreStoredOneWay}
 use Rattle.archive_shelf.specs.Openings.{HasIds, IsEarlier, IsRefused, IsState, Keeps}
@@ -115,18 +115,15 @@ module _ (namespace : List ℕ) (old new : Told) (was : Standing) where
           };
         }
 
-    refused_step : IsRefusedByDisk true taken C C' → IsRefused old.crash new.crash C C' taken
+    refused_step : StoreLeaves true taken C C' (Err stores.DiskFault) → IsRefused old.crash new.crash C C' taken
         → StoresTo C.limits namespace new s taken (Err stores.DiskFault)
     refused_step h refused = ⊎_elim stays part refused
       where
         remains : Remains
-        remains = record {
-          tells = ap (λ (c : Contents). c.tells) h.others;
-          limits_are = ap (λ (c : Contents). c.limits) h.others;
-        }
+        remains = record { tells = ap (λ (c : Contents). c.tells) h.5; limits_are = ap (λ (c : Contents). c.limits) h.5 }
 
         room : length (captures C.seen) < C.limits.captures
-        room = subst (λ (b : Book). length (captures b) < C.limits.captures) h.led h.not_full
+        room = subst (λ (b : Book). length (captures b) < C.limits.captures) h.1 h.2
 
         stays : (C'.seen ≡ C.seen) × Keeps old.crash new.crash C.seen → StoresTo C.limits namespace new s taken (Err stores.DiskFault)
         stays same = record {
@@ -139,19 +136,19 @@ module _ (namespace : List ℕ) (old new : Told) (was : Standing) where
         -- the volume that is there without the capture is the one that it needs
         left_book : (storing : Storing C.limits.volume_bytes C.seen taken) → (C'.seen ≡ C.seen) ⊎ (C'.seen ≡ storing.unfilled)
         left_book storing = ⊎_elim
-            (λ same. inl (same ∙ h.led))
+            (λ same. inl (same ∙ h.1))
             (λ alone.
             let needed = alone.needed stands.tells in
-            let other : Storing C.limits.volume_bytes h.found taken = record {
+            let other : Storing C.limits.volume_bytes h.0 taken = record {
               same = needed.0;
-              unfilled = with_volume h.found taken.date;
+              unfilled = with_volume h.0 taken.date;
               refers = needed.1;
               roomy = inr (needed.2, refl);
             } in
             let here : (o : Storing C.limits.volume_bytes C.seen taken) × (o.unfilled ≡ C'.seen) =
-            subst (λ (b : Book). (o : Storing C.limits.volume_bytes b taken) × (o.unfilled ≡ C'.seen)) h.led (other, sym alone.volume) in
+            subst (λ (b : Book). (o : Storing C.limits.volume_bytes b taken) × (o.unfilled ≡ C'.seen)) h.1 (other, sym alone.volume) in
             inr (sym here.1 ∙ (one C.limits.volume_bytes C.seen taken here.0 storing).unfilled))
-            h.left
+            h.3
 
         grows_by : (storing : Storing C.limits.volume_bytes C.seen taken) → Grows C.seen C'.seen
         grows_by storing = ⊎_elim

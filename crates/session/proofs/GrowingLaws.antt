@@ -85,14 +85,8 @@ contents_at terms view = record { tells = terms.tells; seen = view.book; shown =
 refused_grows : Growing → (terms : Terms) (e : Exchange) (traces : Traces) → IsReply terms e (Fails DiskFault) traces
     → Grows traces.before.book traces.after.book
 refused_grows laws terms e traces h =
-    laws.stores terms.alone _ (contents_at terms traces.before) (contents_at terms traces.after) (Err store_fault.DiskFault) (record {
-      found = traces.before.book;
-      led = laws.leads terms.alone traces.before.book;
-      not_full = h.0.room;
-      left = h.1;
-      shown = h.2;
-      others = refl;
-    })
+    laws.stores terms.alone _ (contents_at terms traces.before) (contents_at terms traces.after) (Err store_fault.DiskFault)
+    (traces.before.book, laws.leads terms.alone traces.before.book, h.0.room, h.1, h.2, refl)
 
 leaves_grows : Growing → (terms : Terms) (traces : Traces) → Leaves terms traces → Grows traces.before.book traces.after.book
 leaves_grows laws terms traces (Stayed h) = subst (λ (x : Book). Grows traces.before.book x) (sym h.book) (laws.itself traces.before.book)

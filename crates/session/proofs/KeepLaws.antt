@@ -207,24 +207,24 @@ module _ (alone : Bool) (site : Site) (e : Exchange) (closes : Bool) (date : ℕ
       → StoresOn alone (taken_of e date received) was is (Err store_fault.DiskFault)
       → Replies alone site e lacked (Some (Fails DiskFault)) around was is
   denied_reply lacked was is consistent h = record {
-    found = h.leaves.found;
-    led = h.leaves.led;
+    found = h.leaves.0;
+    led = h.leaves.1;
     by = (
-      room_in h.leaves.found was is h.leaves.not_full,
-      h.leaves.left,
-      h.leaves.shown,
-      stays_consistent alone site e was is around.faults_now (ap (λ (x : Contents). x.tells) h.leaves.others) consistent,
+      room_in h.leaves.0 was is h.leaves.2,
+      h.leaves.3,
+      h.leaves.4,
+      stays_consistent alone site e was is around.faults_now (ap (λ (x : Contents). x.tells) h.leaves.5) consistent,
     );
     kept = λ lacking. refl;
     dialer = stayed_met around.faults_before around.faults_now come.steady;
     disk = rose_met was.faults is.faults h.faults.1;
-    stored = none_stored was.contents is.contents [] refl h.leaves.others;
+    stored = none_stored was.contents is.contents [] refl h.leaves.5;
     images = λ incoming text. images_denied alone site
-        (round_of alone site e incoming (Some (Fails DiskFault)) lacked (traces_of alone site e around h.leaves.found was is) text) e was is
+        (round_of alone site e incoming (Some (Fails DiskFault)) lacked (traces_of alone site e around h.leaves.0 was is) text) e was is
         (record {
           deed = refl;
-          room = room_in h.leaves.found was is h.leaves.not_full;
-          found = λ is_alone. leads_same alone was.contents.seen h.leaves.found is_alone h.leaves.led;
+          room = room_in h.leaves.0 was is h.leaves.2;
+          found = λ is_alone. leads_same alone was.contents.seen h.leaves.0 is_alone h.leaves.1;
           after = refl;
           stores = h;
         });

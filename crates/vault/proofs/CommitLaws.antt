@@ -190,9 +190,9 @@ module _ {D : Type 0} (tells : Bool) (by : ℕ) (taken : Taken) (history : List 
   failed_so left =
       let noted : Noted = record { by = by; kind = Failed } in
       let added : List Noted = beginning by taken.date began ++ failing by true in
-      let from : left.found ≡ told_book history = left.led ∙ stands.book in
+      let from : left.0 ≡ told_book history = left.1 ∙ stands.book in
       let ways : (is.book ≡ was.book) ⊎ (is.book ≡ with_volume was.book taken.date) =
-      subst (λ (b : Book). (is.book ≡ b) ⊎ (is.book ≡ with_volume b taken.date)) left.led (left_so left.found left.left) in
+      subst (λ (b : Book). (is.book ≡ b) ⊎ (is.book ≡ with_volume b taken.date)) left.1 (left_so left.0 left.3) in
       let after : is.book ≡ book_after (told_book history) added =
       left_by was.book is.book taken.date began ways counted
       ∙ (ap (λ (b : Book). begun_book began b taken.date) stands.book
@@ -204,8 +204,8 @@ module _ {D : Type 0} (tells : Bool) (by : ℕ) (taken : Taken) (history : List 
         answers = record {
           adds = record { begun = beginning by taken.date began; failed = noted; all = refl; begins = begins_at_most by taken.date began; fails = refl };
           not_full = subst (λ (l : Limits). length (captures (told_book history)) < l.captures) stands.limits
-              (subst (λ (b : Book). length (captures b) < was.limits.captures) from left.not_full);
-          left = told_left left.found (told_book (history ++ added)) from book left.left;
+              (subst (λ (b : Book). length (captures b) < was.limits.captures) from left.2);
+          left = told_left left.0 (told_book (history ++ added)) from book left.3;
         };
       }
 
@@ -253,7 +253,7 @@ limits_left : {D : Type 0} (taken : Taken) (was is : Holdings D) (result : Resul
     → StoreLeaves true taken (contents_of was) (contents_of is) result → is.limits ≡ was.limits
 limits_left taken was is (Ok receipt) left = ap (λ (c : Contents). c.limits) left.others
 limits_left taken was is (Err (stores.Full count limit)) left = ap (λ (c : Contents). c.limits) left.0.others
-limits_left taken was is (Err stores.DiskFault) left = ap (λ (c : Contents). c.limits) left.others
+limits_left taken was is (Err stores.DiskFault) left = ap (λ (c : Contents). c.limits) left.5
 limits_left taken was is (Err (stores.Damaged number kept found)) left = ap (λ (c : Contents). c.limits) left.0.others
 limits_left taken was is (Err stores.Memory) left = ap (λ (c : Contents). c.limits) left.others
 
@@ -261,7 +261,7 @@ tells_left : {D : Type 0} (taken : Taken) (was is : Holdings D) (result : Result
     → StoreLeaves true taken (contents_of was) (contents_of is) result → is.told ≡ was.told
 tells_left taken was is (Ok receipt) left = ap (λ (c : Contents). c.tells) left.others
 tells_left taken was is (Err (stores.Full count limit)) left = ap (λ (c : Contents). c.tells) left.0.others
-tells_left taken was is (Err stores.DiskFault) left = ap (λ (c : Contents). c.tells) left.others
+tells_left taken was is (Err stores.DiskFault) left = ap (λ (c : Contents). c.tells) left.5
 tells_left taken was is (Err (stores.Damaged number kept found)) left = ap (λ (c : Contents). c.tells) left.0.others
 tells_left taken was is (Err stores.Memory) left = ap (λ (c : Contents). c.tells) left.others
 

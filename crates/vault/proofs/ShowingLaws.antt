@@ -1,5 +1,5 @@
 -- What is found in a view is found among what is shown, and that begins with the entries of the book that a pass has seen.
-use Rattle.std.proofs.Common.{◌≡◌, ℕ, Bool, IsTrue, List, [], ◌∷◌, ◌++◌, filter, refl, sym, ap, subst, ◌∙◌, inl, inr, append_assoc}
+use Rattle.std.proofs.Common.{◌≡◌, ℕ, Bool, IsTrue, List, [], ◌∷◌, ◌++◌, false, filter, refl, sym, ap, subst, ◌∙◌, inl, inr, append_assoc}
 use mathlib.Core.List.{IsPrefix}
 use Rattle.std.specs.Prelude.{Contains, IfOk, Option, Some, None, Result, Ok, Err}
 use Rattle.std.specs.List.Sorted.{IsStrictlySortedBy}
@@ -16,7 +16,7 @@ use Rattle.cdxj_index.specs.Queries.{IsIndex, IsNearest, with_number}
 use Rattle.cdxj_index.proofs.Entries.{with_number-none, with_number-some}
 use Rattle.cdxj_index.proofs.Members.{Among, Among-filter, Among-append_right, Among-filter_back, Sorted-filter, all_among, among_from_contains, contains_from_among, not_below_itself}
 use Rattle.cdxj_index.proofs.Orders.{order_total}
-use Rattle.archive_shelf.specs.Contents.{BeginsWithEntries}
+use Rattle.archive_shelf.specs.Contents.{Shows}
 use Rattle.archive_shelf.specs.Queries.{ArePicked, IsFound}
 use Rattle.archive_core.specs.Shown.{numbered}
 use Rattle.index_snapshot.specs.Entries.{HasEntries, entries_in}
@@ -120,29 +120,29 @@ shown_joined first others more =
 
 module _ (keeps : GrowthKeepsCaptures) (itself : GrowsFromItself) (goes_on : GrowthGoesOn) where
   begins_so : (first : Item) (others more : List Item) → AreItems (first ∷ others ++ more) → IsTrue first.told.value
-      → BeginsWithEntries (last_from (book_in first) others) (shown_in (first ∷ others ++ more))
+      → Shows false (last_from (book_in first) others) (shown_in (first ∷ others ++ more))
   begins_so first others more are told =
       let rest = behind_rest first.told.value (book_in first) (brings_of first) others more are.1 in
-      record {
-        entries = shown_in (first ∷ others);
-        are = shown_entries keeps (first ∷ others) (are.0, behind_front first.told.value (book_in first) (brings_of first) others more are.1) told;
-        first = record { rest = entries_in brings_of more; joined = shown_joined first others more };
-        in_order = shown_sorted keeps (first ∷ others ++ more) are;
-        behind = λ e there.
+      (
+        shown_in (first ∷ others),
+        shown_entries keeps (first ∷ others) (are.0, behind_front first.told.value (book_in first) (brings_of first) others more are.1) told,
+        record { rest = entries_in brings_of more; joined = shown_joined first others more },
+        shown_sorted keeps (first ∷ others ++ more) are,
+        λ e there.
             from_on keeps first.told.value (last_from (book_in first) others) (brings_of first ++ entries_in brings_of others) more rest e
-            (among_from_contains (entries_in brings_of more) e there);
-        later = last_book (first ∷ others ++ more);
-        grown = subst (λ (b : Book). Grows (last_from (book_in first) others) b) (sym (last_joined (book_in first) others more))
-            (grows_last itself goes_on first.told.value (last_from (book_in first) others) (brings_of first ++ entries_in brings_of others) more rest);
-        all = shown_entries keeps (first ∷ others ++ more) are told;
-      }
+            (among_from_contains (entries_in brings_of more) e there),
+        last_book (first ∷ others ++ more),
+        subst (λ (b : Book). Grows (last_from (book_in first) others) b) (sym (last_joined (book_in first) others more))
+            (grows_last itself goes_on first.told.value (last_from (book_in first) others) (brings_of first ++ entries_in brings_of others) more rest),
+        shown_entries keeps (first ∷ others ++ more) are told,
+      )
 
   pub knows_book : (history : List Noted) (note items : List Item) → AreItems items → IsPrefix note items → HasBook history note → tells_in note ≡ is_told history
-      → IsTrue (is_told history) → BeginsWithEntries (told_book history) (shown_in items)
+      → IsTrue (is_told history) → Shows false (told_book history) (shown_in items)
   knows_book history note items are begins has told_is told =
       let front : List Item = has.first ∷ has.others in
       let all = prefix_on front note items has.begins begins in
       let flag : has.first.told.value ≡ is_told history = ap tells_in has.begins.1 ∙ told_is in
-      subst (λ (b : Book). BeginsWithEntries b (shown_in items)) has.book_is
-      (subst (λ (l : List Item). BeginsWithEntries (last_from (book_in has.first) has.others) (shown_in l)) all.1
+      subst (λ (b : Book). Shows false b (shown_in items)) has.book_is
+      (subst (λ (l : List Item). Shows false (last_from (book_in has.first) has.others) (shown_in l)) all.1
       (begins_so has.first has.others all.0 (subst AreItems (sym all.1) are) (subst (λ (b : Bool). IsTrue b) (sym flag) told)))

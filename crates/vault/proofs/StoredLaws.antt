@@ -55,16 +55,15 @@ module _ (taken : Taken) (was is : Passing) (same : IsSamePass was.known is.know
     looks.2 ∙ ap (λ (l : Limits). l.captures) limits,
   )
   refused payload stores.DiskFault found book limits leaves looks =
-      let all = stays was is same shown 1 leaves in
-      record {
-        found = told_book is.known.seen;
-        led = all.seen;
-        not_full = subst (λ (l : Limits). length (captures (told_book is.known.seen)) < l.captures) limits
-            (subst (λ (b : Book). length (captures b) < (told_limits found).captures) (sym book) looks);
-        left = inl refl;
-        shown = all.shown;
-        others = all.others;
-      }
+      let all = stays was is same shown 1 leaves in (
+        told_book is.known.seen,
+        all.seen,
+        subst (λ (l : Limits). length (captures (told_book is.known.seen)) < l.captures) limits
+            (subst (λ (b : Book). length (captures b) < (told_limits found).captures) (sym book) looks),
+        inl refl,
+        all.shown,
+        all.others,
+      )
   refused payload (stores.Damaged at kept digest) found book limits leaves looks = (
     stays was is same shown 0 leaves,
     subst (λ (l : Limits). length (captures (told_book is.known.seen)) < l.captures) limits
@@ -114,17 +113,16 @@ module _ (taken : Taken) (was is : Passing) (same : IsSamePass was.known is.know
           done.3 ∙ ap (λ (l : Limits). l.captures) limits_there,
         )
     committed (Err stores.DiskFault) leaves done =
-        let all = stays was is same shown 1 leaves in
-        record {
-          found = told_book found;
-          led = base.grows;
-          not_full = subst (λ (l : Limits). length (captures (told_book found)) < l.captures) limits_there done.not_full;
-          left = subst (λ (b : Book). (b ≡ told_book found) ⊎ HasVolumeAlone (is_told was.known.seen) (told_limits was.known.seen).volume_bytes (told_book found) taken b) (sym book_there)
+        let all = stays was is same shown 1 leaves in (
+          told_book found,
+          base.grows,
+          subst (λ (l : Limits). length (captures (told_book found)) < l.captures) limits_there done.not_full,
+          subst (λ (b : Book). (b ≡ told_book found) ⊎ HasVolumeAlone (is_told was.known.seen) (told_limits was.known.seen).volume_bytes (told_book found) taken b) (sym book_there)
               (subst (λ (l : Limits). (told_book (found ++ added) ≡ told_book found)
-              ⊎ HasVolumeAlone (is_told was.known.seen) l.volume_bytes (told_book found) taken (told_book (found ++ added))) limits_there done.left);
-          shown = all.shown;
-          others = all.others;
-        }
+              ⊎ HasVolumeAlone (is_told was.known.seen) l.volume_bytes (told_book found) taken (told_book (found ++ added))) limits_there done.left),
+          all.shown,
+          all.others,
+        )
     committed (Err (stores.Damaged at kept digest)) leaves done =
         let book : told_book is.known.seen ≡ told_book found = book_there ∙ nothing_added found added done.0 in (
           stays was is same shown 0 leaves,
