@@ -1,6 +1,7 @@
 -- How a store of an archive ends: without memory, refused by the disk, or with the capture.
-use Rattle.std.proofs.Common.{◌≡◌, ◌≢◌, ◌⊎◌, ℕ, suc, ◌+◌, ◌-◌, ◌^◌, ◌<◌, ◌≤◌, Bool, true, false, IsFalse, IsTrue, List, [], ◌∷◌, ◌++◌, length, Option, Some, None, Result, Ok, Err, if◌then◌else◌, is_some, refl, sym, ap, subst, ◌∙◌, inl, inr, ⊎_elim, arith, length-append}
+use Rattle.std.proofs.Common.{◌≡◌, ◌≢◌, ◌⊎◌, ℕ, zero, suc, ◌+◌, ◌-◌, ◌^◌, ◌<◌, ◌≤◌, Bool, true, false, IsFalse, IsTrue, List, [], ◌∷◌, ◌++◌, length, Option, Some, None, Result, Ok, Err, if◌then◌else◌, is_some, refl, sym, ap, subst, ◌∙◌, inl, inr, ⊎_elim, arith, length-append}
 use Rattle.std.specs.Prelude.{Contains, IfSome, IsErrAnd, count_by}
+use Rattle.std.specs.List.{range_with_len}
 use Rattle.std.proofs.lemmas.Bool.{false≢true}
 use Rattle.std.proofs.lemmas.List.Sums.{count_by-le-length}
 use Rattle.sha1.specs.Sha1.{sha1}
@@ -49,7 +50,7 @@ use Rattle.archive_core.specs.Finished.{FirstAreFinished}
 use Rattle.archive_core.specs.Holdings.{AreLimits, Holdings, IsArchive, contents_of}
 use Rattle.archive_core.specs.Looking.{IsDigestOf, RefersTo}
 use Rattle.archive_volumes.specs.Ready.{CanCommit, Incoming, IsReady, record_in, spot_in}
-use Rattle.archive_core.specs.Shown.{numbered, numbers_from}
+use Rattle.archive_core.specs.Shown.{numbered}
 use Rattle.archive_volumes.specs.Spots.{AreHeldWhole, ArePlaced, AreSpotsOf, AreWithin, text_at, whole_from}
 use Rattle.archive_core.specs.Stores.{FillsVolumes, Stores}
 use Rattle.archive_core.specs.Told.{told_of}
@@ -126,7 +127,7 @@ module _ {D : Type 0} (d : Ghosts D) (was is : Holdings D) (journal_is : is.jour
           tells = told_is i;
           seen = is.book;
           shown = numbered is.index;
-          mine = numbers_from (found_is i) (length (captures (book_is i)) - found_is i);
+          mine = range_with_len (found_is i) (length (captures (book_is i)) - found_is i);
           limits = limits_is i;
         };
       };
@@ -275,12 +276,19 @@ roomy_by : (book : Book) (prepared : Option Prepared) (date : ℕ) → 0 < lengt
 roomy_by book None date some born = inl (no_volumes book.volumes some, refl)
 roomy_by book (Some p) date some born = inr (ap (with_volume book) born)
 
+-- one number more stands behind the others
+range_more : (a n : ℕ) → range_with_len a (suc n) ≡ range_with_len a n ++ (a + n) ∷ []
+range_more a zero = let same : a ≡ a + 0 = omega arith in ap (λ (x : ℕ). x ∷ []) same
+range_more a (suc n) =
+    let same : a + 1 + n ≡ a + suc n = omega arith in
+    ap (λ (l : List ℕ). a ∷ l) (range_more (a + 1) n ∙ ap (λ (x : ℕ). range_with_len (a + 1) n ++ x ∷ []) same)
+
 -- its own number is added to those that its stores gave
-pub mine_more : (found n m k : ℕ) → found ≤ n → m ≡ n + 1 → k ≡ n → numbers_from found (m - found) ≡ numbers_from found (n - found) ++ k ∷ []
+pub mine_more : (found n m k : ℕ) → found ≤ n → m ≡ n + 1 → k ≡ n → range_with_len found (m - found) ≡ range_with_len found (n - found) ++ k ∷ []
 mine_more found n m k le more is =
     let long : m - found ≡ suc (n - found) = omega (arith, le, more) in
     let last : found + (n - found) ≡ k = omega (arith, le, is) in
-    ap (numbers_from found) long ∙ ap (λ (x : ℕ). numbers_from found (n - found) ++ x ∷ []) last
+    ap (range_with_len found) long ∙ range_more found (n - found) ∙ ap (λ (x : ℕ). range_with_len found (n - found) ++ x ∷ []) last
 
 -- where a volume was begun alone, the capture needed it
 left_by : {D : Type 0} (d : Ghosts D) (limit : ℕ) (book : Book) (taken : Taken) (prepared : Option Prepared) (with_it now : Book)
@@ -468,7 +476,7 @@ module _ {D : Type 0} (d : Ghosts D) (basis : StoringBasis) (was : Holdings D) (
                     tells = was.told;
                     seen = after;
                     shown = numbered index;
-                    mine = numbers_from was.found (length (captures_stay i) - was.found);
+                    mine = range_with_len was.found (length (captures_stay i) - was.found);
                     limits = was.limits;
                   },
                 );

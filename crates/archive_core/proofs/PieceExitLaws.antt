@@ -1,6 +1,7 @@
 -- How the taking of a piece ends once it was read: without memory, refused by the disk, or with the capture.
 use Rattle.std.proofs.Common.{◌≡◌, ◌⊎◌, ℕ, ◌+◌, ◌-◌, ◌^◌, ◌<◌, Bool, false, IsFalse, IsTrue, List, [], ◌∷◌, ◌++◌, length, Option, Some, None, Result, Ok, Err, if◌then◌else◌, is_some, refl, sym, ap, subst, ◌∙◌, inl, inr, ⊎_elim, arith, length-append}
 use Rattle.std.specs.Prelude.{IfSome, IsErrAnd}
+use Rattle.std.specs.List.{range_with_len}
 use Rattle.sha1.specs.Sha1.{sha1}
 use Rattle.capture.proofs.PayloadLaws.{captures_have_one}
 use Rattle.capture.specs.Captures.{IsPayloadOf, captures, taken_back}
@@ -59,7 +60,7 @@ use Rattle.archive_core.specs.Holdings.{Holdings, IsArchive}
 use Rattle.archive_pieces.specs.PieceFaults.{is_take_fault}
 use Rattle.archive_pieces.specs.PieceParts.{book_by, room_by}
 use Rattle.archive_pieces.specs.PieceReady.{IsReadyGroup, IsWithinBounds, MakesRoom, MayHold, RefersSo, end_in}
-use Rattle.archive_core.specs.Shown.{numbered, numbers_from}
+use Rattle.archive_core.specs.Shown.{numbered}
 use Rattle.archive_core.specs.TakingPieces.{IsUntouched, Puts}
 use Rattle.archive_core.specs.Texts.{texts_room}
 use Rattle.archive_pieces.specs.declared.fault.PieceFault.{PieceFault}
@@ -83,7 +84,7 @@ untouched d was is journal book index limits found told = record {
     tells = told i;
     seen = book i;
     shown = numbered (index i);
-    mine = numbers_from (found i) (length (captures (book i)) - found i);
+    mine = range_with_len (found i) (length (captures (book i)) - found i);
     limits = limits i;
   };
 }
@@ -434,7 +435,7 @@ module _ {D : Type 0} (d : Ghosts D) (basis : StoringBasis) (reading : Laws) (wa
                 tells = was.told;
                 seen = after;
                 shown = numbered (index_stays i);
-                mine = numbers_from was.found (length (captures_stay i) - was.found);
+                mine = range_with_len was.found (length (captures_stay i) - was.found);
                 limits = was.limits;
               };
               writes = record {

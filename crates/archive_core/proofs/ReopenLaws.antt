@@ -1,6 +1,7 @@
 -- What may be opened of an archive that was opened, and what isn't refused.
 use Rattle.std.proofs.Common.{◌≡◌, ℕ, ◌-◌, ◌<◌, ◌≤◌, Bool, IsTrue, List, [], length, Option, Some, None, Result, Ok, Err, refl, sym, ap, subst, ◌∙◌, inl, ⊎_elim, arith}
 use Rattle.std.specs.Prelude.{Contains, IfErr, IfOk, IfSome}
+use Rattle.std.specs.List.{range_with_len}
 use Rattle.std.proofs.lemmas.Bool.{cases_lt}
 use Rattle.capture.specs.Captures.{captures}
 use Rattle.capture.specs.declared.book.Book.{Book}
@@ -28,7 +29,6 @@ use Rattle.archive_core.specs.Holdings.{Holdings, contents_of}
 use Rattle.archive_opening.specs.Opening.{CountsFault, HoldsOther, IsCause, IsDamageIn, IsIn, IsOtherIn, IsOutside}
 use Rattle.archive_core.specs.Reopening.{IsMadeOf, IsNotOpened, IsReopened, NamesCapture}
 use Rattle.archive_core.specs.Known.{IsLined, IsNotOpenedKnown, IsReopenedKnown, MayBeKnown, opening_of, told_at}
-use Rattle.archive_core.specs.Shown.{numbers_from}
 use Rattle.archive_core.specs.Told.{told_of}
 use Rattle.archive_volumes.specs.Volumes.{muted}
 use Rattle.archive_opening.specs.declared.opening.Opened.{Opened}
@@ -58,8 +58,8 @@ outside files asked faults.Memory damage other book sound for its = tt
 
 -- ---- what may be opened of it
 
-none_mine : (n m : ℕ) → n ≡ m → numbers_from n (m - n) ≡ []
-none_mine n m same = let none : m - n ≡ 0 = omega (arith, same) in ap (numbers_from n) none
+none_mine : (n m : ℕ) → n ≡ m → range_with_len n (m - n) ≡ []
+none_mine n m same = let none : m - n ≡ 0 = omega (arith, same) in ap (range_with_len n) none
 
 -- the entries of a book tell the targets and dates of its captures
 names_by : (book : Book) (entries : List Facts) → AreEntries book entries → (entry : Facts) → Contains entries entry → NamesCapture book entry

@@ -17,7 +17,7 @@ use Rattle.archive_core.specs.Finished.{FirstAreFinished, HasCheckpoint}
 use Rattle.archive_core.specs.Holdings.{Holdings, IsArchive}
 use Rattle.archive_core.specs.Looking.{OnlyLooks}
 use Rattle.archive_core.specs.Settling.{HasWithout, LeavesCheckpoints, SettlesOn, reach}
-use Rattle.archive_core.specs.steps.Supplying.{GoesThrough, KeepsVolumes, KnowsMore, IsAsBefore, shelved_as, Settles}
+use Rattle.archive_core.specs.steps.Supplying.{GoesThrough, KeepsVolumes, KnowsMore, IsAsBefore, shelved_as}
 use Rattle.archive_core.proofs.KeepingLaws.{measured_kept, opens_told, quiet_told, texts_kept}
 
 answer : Result ℕ CheckpointFault → ℕ
@@ -74,59 +74,55 @@ module _ {D : Type 0} (d : Ghosts D) (laws : DiskLaws d) (base : Holdings D) (ol
   left (Err checkpoints.DiskFault) through = through.left
   left (Err checkpoints.Memory) through = through.left
 
-  module _ (reads : IsTrue d.tells → d.images (disk_of new.journal) (d.reading (disk_of new.journal))) where
-    settles : (r : Result ℕ CheckpointFault) → IsTrue base.told → KnowsMore (book_of old.held) known now r
-        → GoesThrough d (shelved_as base.told (book_of old.held) base.spots) now (disk_of old.journal) (disk_of new.journal) r
-        → IfOk r (Settles d (book_of old.held) (disk_of old.journal) (disk_of new.journal))
-    settles (Ok n) told more through = (
-      λ k less. through.settled told (d.reading (disk_of new.journal)) (reads (is.holds.tells told)) k (omega (arith, less, more.all)),
-      λ image left k less. through.settled told image left k (omega (arith, less, more.all)),
-      subst (λ (k : ℕ). HasWithout (λ j. HasCheckpoint (book_of old.held) j (d.reading (disk_of old.journal))) k n) more.all (through.counted told),
-    )
-    settles (Err fault) told more through = tt
+  missing : (r : Result ℕ CheckpointFault) → IsTrue base.told → KnowsMore (book_of old.held) known now r
+      → GoesThrough d (shelved_as base.told (book_of old.held) base.spots) now (disk_of old.journal) (disk_of new.journal) r
+      → IfOk r (HasWithout (λ k. HasCheckpoint (book_of old.held) k (d.reading (disk_of old.journal))) (length (book_of old.held).volumes - 1))
+  missing (Ok n) told more through =
+      subst (λ (k : ℕ). HasWithout (λ j. HasCheckpoint (book_of old.held) j (d.reading (disk_of old.journal))) k n) more.all (through.counted told)
+  missing (Err fault) told more through = tt
 
-    -- how many files are others than before
-    wrote : (r : Result ℕ CheckpointFault) → KnowsMore (book_of old.held) known now r
-        → GoesThrough d (shelved_as base.told (book_of old.held) base.spots) now (disk_of old.journal) (disk_of new.journal) r
-        → IfOk r (HasWithout (IsAsBefore (d.reading (disk_of old.journal)) (d.reading (disk_of new.journal))) (length (book_of old.held).volumes - 1))
-    wrote (Ok n) more through =
-        subst (λ (k : ℕ). HasWithout (IsAsBefore (d.reading (disk_of old.journal)) (d.reading (disk_of new.journal))) k n) more.all through.wrote
-    wrote (Err fault) more through = tt
+  -- how many files are others than before
+  wrote : (r : Result ℕ CheckpointFault) → KnowsMore (book_of old.held) known now r
+      → GoesThrough d (shelved_as base.told (book_of old.held) base.spots) now (disk_of old.journal) (disk_of new.journal) r
+      → IfOk r (HasWithout (IsAsBefore (d.reading (disk_of old.journal)) (d.reading (disk_of new.journal))) (length (book_of old.held).volumes - 1))
+  wrote (Ok n) more through =
+      subst (λ (k : ℕ). HasWithout (IsAsBefore (d.reading (disk_of old.journal)) (d.reading (disk_of new.journal))) k n) more.all through.wrote
+  wrote (Err fault) more through = tt
 
-    looks : (IsTrue d.tells → Rests d (disk_of old.journal) (disk_of new.journal)) → OnlyLooks d (over base old known) (over base new known)
-    looks still = record {
-      others = ap (λ (h : Held). record base { journal = new.journal; book = book_of h; settled = known }) keeps.held;
-      extent = keeps.extent;
-      bytes = still;
-      unwritten = record {
-        reading = λ alone told. (still (is.holds.tells told)).read;
-        crash = quiet_told d base.told is.holds.tells (disk_of old.journal) (disk_of new.journal)
-            (λ tells. quiet_by d laws (disk_of old.journal) (disk_of new.journal) still);
-      };
-    }
+  looks : (IsTrue d.tells → Rests d (disk_of old.journal) (disk_of new.journal)) → OnlyLooks d (over base old known) (over base new known)
+  looks still = record {
+    others = ap (λ (h : Held). record base { journal = new.journal; book = book_of h; settled = known }) keeps.held;
+    extent = keeps.extent;
+    bytes = still;
+    unwritten = record {
+      reading = λ alone told. (still (is.holds.tells told)).read;
+      crash = quiet_told d base.told is.holds.tells (disk_of old.journal) (disk_of new.journal)
+          (λ tells. quiet_by d laws (disk_of old.journal) (disk_of new.journal) still);
+    };
+  }
 
-    none : (r : Result ℕ CheckpointFault)
-        → (IsTrue d.tells → GoesThrough d (shelved_as base.told (book_of old.held) base.spots) now (disk_of old.journal) (disk_of new.journal) r) → r ≡ Ok 0
-        → OnlyLooks d (over base old known) (over base new known)
-    unfolding answer
-    none (Ok n) through same = looks (λ tells. (through tells).none (ap answer same))
-    none (Err fault) through same = absurd (omega (arith, ap answer same))
+  none : (r : Result ℕ CheckpointFault)
+      → (IsTrue d.tells → GoesThrough d (shelved_as base.told (book_of old.held) base.spots) now (disk_of old.journal) (disk_of new.journal) r) → r ≡ Ok 0
+      → OnlyLooks d (over base old known) (over base new known)
+  unfolding answer
+  none (Ok n) through same = looks (λ tells. (through tells).none (ap answer same))
+  none (Err fault) through same = absurd (omega (arith, ap answer same))
 
-    pub settles_on : (known ≡ length (book_of old.held).volumes - 1 → OnOk result (new ≡ old))
-        → CountsDisk (d.faults (disk_of old.journal)) (d.faults (disk_of new.journal)) result
-        → SettlesOn d (over base old known) (over base new now) result
-    settles_on unasked faults = record {
-      others = other_book;
-      known = knows.more;
-      all = knows.all;
-      few = knows.few;
-      unasked = λ all. on_ok result (λ same. ap (λ (v : Volumes D). v.journal) same) (unasked all);
-      extent = keeps.extent;
-      faults = faults;
-      leaves = λ tells. left result (went tells);
-      wrote = λ tells. wrote result knows (went tells);
-      first = λ told. first result (went (is.holds.tells told)) told;
-      opens = opens_told d base.told is.holds.tells (disk_of old.journal) (disk_of new.journal) keeps.opens;
-      settles = λ told. settles result told knows (went (is.holds.tells told));
-      none = none result went;
-    }
+  pub settles_on : (known ≡ length (book_of old.held).volumes - 1 → OnOk result (new ≡ old))
+      → CountsDisk (d.faults (disk_of old.journal)) (d.faults (disk_of new.journal)) result
+      → SettlesOn d (over base old known) (over base new now) result
+  settles_on unasked faults = record {
+    others = other_book;
+    known = knows.more;
+    all = knows.all;
+    few = knows.few;
+    unasked = λ all. on_ok result (λ same. ap (λ (v : Volumes D). v.journal) same) (unasked all);
+    extent = keeps.extent;
+    faults = faults;
+    leaves = λ tells. left result (went tells);
+    wrote = λ tells. wrote result knows (went tells);
+    first = λ told. first result (went (is.holds.tells told)) told;
+    opens = opens_told d base.told is.holds.tells (disk_of old.journal) (disk_of new.journal) keeps.opens;
+    missing = λ told. missing result told knows (went (is.holds.tells told));
+    none = none result went;
+  }

@@ -1,5 +1,6 @@
 -- What an archive over a disk holds, and what is told of it.
 use Rattle.std.specs.Prelude.{◌≡◌, ℕ, ◌-◌, ◌^◌, ◌<◌, ◌≤◌, Bool, IsFalse, IsTrue, List, length, count_by, Contains}
+use Rattle.std.specs.List.{range_with_len}
 use Rattle.capture.specs.Captures.{captures}
 use Rattle.capture.specs.declared.book.Book.{Book}
 use Rattle.capture.specs.declared.captured.Stored.{Stored}
@@ -15,7 +16,7 @@ use Rattle.warc_journal.specs.declared.journal.Journal.{Journal}
 use Rattle.archive_shelf.specs.Contents.{Contents}
 use Rattle.archive_shelf.specs.Storing.{is_revisit}
 use Rattle.archive_core.specs.Finished.{FirstAreFinished}
-use Rattle.archive_core.specs.Shown.{numbered, numbers_from}
+use Rattle.archive_core.specs.Shown.{numbered}
 use Rattle.archive_volumes.specs.Spots.{AreHeldWhole, ArePlaced, AreSpotsOf, AreWithin, whole_from}
 use Rattle.archive_volumes.specs.Volumes.{HoldsBook, IsMeasured}
 use Rattle.archive_volumes.specs.declared.spot.Spot.{Spot}
@@ -75,6 +76,6 @@ contents_of held = record {
   tells = held.told;
   seen = held.book;
   shown = numbered held.index;
-  mine = numbers_from held.found (length (captures held.book) - held.found);
+  mine = range_with_len held.found (length (captures held.book) - held.found);
   limits = held.limits;
 }

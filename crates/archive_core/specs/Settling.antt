@@ -111,10 +111,10 @@ reach settled (Err checkpoints.DiskFault) = settled + 1
 reach settled (Err checkpoints.Memory) = settled
 
 -- What a call leaves that writes the checkpoints which are missing, and answers how many it wrote, which is how many files are others than
--- before. All of the archive stays but its disk and how many checkpoints are known to be finished, of which none is forgotten; after success all
--- are. Where the book is told, so many are finished in each image, also where it was refused; after success those of all sealed volumes, of each but the last,
--- are, in what a read gives and in each image, and just so many were missing. Nothing is opened that wasn't before. Where it wrote none, the disk stays; and it
--- isn't asked where all were known.
+-- before. All of the archive stays but its disk and how many checkpoints are known to be finished, of which none is forgotten; after success
+-- those of all sealed volumes are, of each but the last. Where the book is told, so many are finished in each image, and so in what a read gives, also where it
+-- was refused; and after success just so many were missing. Nothing is opened that wasn't before. Where it wrote none, the disk stays; and it isn't asked where
+-- all were known.
 pub record SettlesOn {D : Type 0} (d : Ghosts D) (was is : Holdings D) (result : Result ℕ CheckpointFault) : Type 0 where
   pub others : is ≡ record was { journal = is.journal; settled = is.settled }
   pub known : was.settled ≤ is.settled
@@ -131,7 +131,6 @@ pub record SettlesOn {D : Type 0} (d : Ghosts D) (was is : Holdings D) (result :
   pub first : IsTrue was.told → Leaves (d.images (disk_of is.journal)) (FirstAreFinished was.book is.settled)
   -- but for its checkpoints
   pub opens : LeavesNoMore (told_of d was).crash (record (told_of d is).crash { checkpoints = (told_of d was).crash.checkpoints })
-  pub settles : IsTrue was.told → IfOk result (λ n. FirstAreFinished was.book (length was.book.volumes - 1) (d.reading (disk_of is.journal))
-      × Leaves (d.images (disk_of is.journal)) (FirstAreFinished was.book (length was.book.volumes - 1))
-      × HasWithout (λ k. HasCheckpoint was.book k (d.reading (disk_of was.journal))) (length was.book.volumes - 1) n)
+  pub missing : IsTrue was.told
+      → IfOk result (HasWithout (λ k. HasCheckpoint was.book k (d.reading (disk_of was.journal))) (length was.book.volumes - 1))
   pub none : result ≡ Ok 0 → OnlyLooks d was (record is { settled = was.settled })

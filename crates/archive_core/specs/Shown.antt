@@ -1,5 +1,5 @@
 -- What an archive shows of its index: the entries in order of their numbers.
-use Rattle.std.specs.Prelude.{ℕ, nat_lt, List, [], ◌∷◌, ◌++◌, zero, suc, ◌+◌, if◌then◌else◌}
+use Rattle.std.specs.Prelude.{nat_lt, List, [], ◌∷◌, if◌then◌else◌}
 use Rattle.cdxj_index.specs.Facts.{Facts}
 
 -- the entries in order of numbers, with one more in its place
@@ -11,8 +11,3 @@ put entry (first ∷ others) = if nat_lt entry.number first.number then entry �
 abbrev pub numbered : List Facts → List Facts
 numbered [] = []
 numbered (first ∷ others) = put first (numbered others)
-
--- so many numbers from one on
-abbrev pub numbers_from : ℕ → ℕ → List ℕ
-numbers_from from zero = []
-numbers_from from (suc n) = numbers_from from n ++ (from + n) ∷ []

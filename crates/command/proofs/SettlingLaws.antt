@@ -1,13 +1,13 @@
 -- What it leaves of an archive that its checkpoints were written.
 use Rattle.std.proofs.Common.{◌-◌, ◌≡◌, ℕ, ◌≤◌, Bool, true, IsTrue, List, [], length, Option, Some, None, Result, Ok, Err, refl, sym, ap, subst, ◌∙◌, ⊎_elim, arith}
-use Rattle.std.specs.Prelude.{IfOk, IfSome}
+use Rattle.std.specs.Prelude.{IfSome, OnOk}
 use Rattle.std.proofs.lemmas.Bool.{false≢true}
 use Rattle.archive_core.proofs.FinishedLaws.{same_checkpoints_of}
 use Rattle.archive_core.specs.Holdings.{Holdings, contents_of}
 use Rattle.archive_core.specs.Known.{HasCheckpointsOfKnown, IsReopenedKnown, Opening, by_checkpoints, told_at}
 use Rattle.archive_core.specs.Finished.{FirstAreFinished}
 use Rattle.archive_core.specs.Settling.{KeepsSettled, SettlesOn, reach}
-use Rattle.archive_core.specs.steps.Supplying.{OpensNoMore, shelved_as, Settles}
+use Rattle.archive_core.specs.steps.Supplying.{OpensNoMore, shelved_as}
 use Rattle.archive_volumes.specs.Spots.{AreSpotsOf}
 use Rattle.archive_volumes.specs.Volumes.{OpensNear, crash_of, muted}
 use Rattle.archive_opening.specs.Opening.{IsIn}
@@ -200,9 +200,8 @@ module _ {D : Type 0} (disks : Disks D) {before : Holdings D} {said status : Sta
   -- and where it was done, all are finished
   pub closed_all : (n : ℕ) → c.answer ≡ Ok n → IsTrue before.told → Leaves (disks.images is) (FirstAreFinished before.book (length before.book.volumes - 1))
   closed_all n done told image left =
-      let settles = subst (λ (r : Result ℕ CheckpointFault). IfOk r (Settles disks before.book (disk_of before.journal) (disk_of c.after.journal))) done
-      (c.settles.settles told) in
-      settles.1 image (there image left)
+      let all = subst (λ (r : Result ℕ CheckpointFault). OnOk r (c.after.settled ≡ length before.book.volumes - 1)) done c.settles.all in
+      subst (λ (k : ℕ). FirstAreFinished before.book k image) all (c.settles.first told image (there image left))
 
   -- a fault of the disk was counted
   pub closed_rose : c.answer ≡ Err checkpoints.DiskFault → Rose (disks.faults (disk_of before.journal)) (disks.faults is)

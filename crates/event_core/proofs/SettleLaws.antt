@@ -1,6 +1,6 @@
 -- What an archive promises where checkpoints are written is the machine's step.
 use Rattle.std.proofs.Common.{length, ◌≡◌, ℕ, ◌-◌, ◌<◌, true, IsTrue, List, [], get_or, Result, Ok, Err, refl, sym, ap, subst, ◌∙◌, inl, ⊎_elim, arith}
-use Rattle.std.specs.Prelude.{IfOk}
+use Rattle.std.specs.Prelude.{IfOk, OnOk}
 use Rattle.capture.specs.declared.book.Book.{Book}
 use Rattle.capture.specs.declared.limits.Limits.{Limits}
 use Rattle.cdxj_line.specs.declared.line.Line.{Line}
@@ -17,7 +17,7 @@ use Rattle.archive_core.specs.Finished.{HasCheckpoint, FirstAreFinished}
 use Rattle.archive_core.specs.Holdings.{Holdings}
 use Rattle.archive_core.specs.Settling.{HasWithout, KeepsSettled, SettlesOn, Shelved, reach}
 use Rattle.archive_core.specs.Told.{told_of}
-use Rattle.archive_core.specs.steps.Supplying.{HasSupplied, shelved_as, Settles}
+use Rattle.archive_core.specs.steps.Supplying.{HasSupplied, shelved_as}
 use Rattle.event_core.proofs.ImageLaws.{count_files, file_at, finished_of, finished_sealed, right_files, right_image}
 use Rattle.event_core.proofs.StandLaws.{kept_state}
 use Rattle.event_core.proofs.TallyLaws.{counted_may, least_may, open_tallied, open_tally, settled_tallied, settled_tally}
@@ -149,11 +149,13 @@ module _ {D : Type 0} (d : Ghosts D) (was is : Holdings D) (result : Result ℕ 
   -- done
   pub settle_done : (n : ℕ) → result ≡ Ok n → Answers limits namespace (told_of d is) s events.Settle (settle_reply (Ok n))
   settle_done n ok =
-      let settles = subst (λ (r : Result ℕ CheckpointFault). IfOk r (Settles d was.book old_disk (disk_of is.journal))) ok (h.settles told) in
+      let all = subst (λ (r : Result ℕ CheckpointFault). OnOk r (is.settled ≡ length was.book.volumes - 1)) ok h.all in
+      let missing = subst (λ (r : Result ℕ CheckpointFault). IfOk r (HasWithout (λ k. HasCheckpoint was.book k first) (length was.book.volumes - 1))) ok
+      (h.missing told) in
       let book : was.book ≡ s.book = stands.book in
       let counted = counted_may (told_of d was).crash.checkpoints (sealed s.book) s.tally (cdxj_files first) n stands.tallied (old_left first first_now)
       (count_files s.book first (sealed s.book) n (old_right first first_now)
-      (subst (λ (b : Book). HasWithout (λ k. HasCheckpoint b k first) (sealed b) n) book settles.2)) in
+      (subst (λ (b : Book). HasWithout (λ k. HasCheckpoint b k first) (sealed b) n) book missing)) in
       let tally = settled_tally (sealed s.book) (cdxj_files (d.reading (disk_of is.journal))) in record {
         is = record s { tally = tally };
         stands = stands_with tally
@@ -162,7 +164,8 @@ module _ {D : Type 0} (d : Ghosts D) (was is : Holdings D) (result : Result ℕ 
             (λ files left k less.
             subst (λ (fs : List (List ℕ)). HasFinished fs k) left.3
             (finished_of s.book left.1 k
-            (subst (λ (b : Book). FirstAreFinished b (length b.volumes - 1) left.1) book (settles.1 left.1 left.2) k (omega (arith, less)))))
+            (subst (λ (b : Book). FirstAreFinished b (length b.volumes - 1) left.1) book
+            (subst (λ (m : ℕ). FirstAreFinished was.book m left.1) all (h.first told left.1 left.2)) k (omega (arith, less)))))
             only_sealed);
         steps = λ c may. (
           sealed s.book - n,

@@ -122,8 +122,7 @@ module _ (keeps : GrowthKeepsCaptures) (itself : GrowsFromItself) (goes_on : Gro
   begins_so : (first : Item) (others more : List Item) → AreItems (first ∷ others ++ more) → IsTrue first.told.value
       → Shows false (last_from (book_in first) others) (shown_in (first ∷ others ++ more))
   begins_so first others more are told =
-      let rest = behind_rest first.told.value (book_in first) (brings_of first) others more are.1 in
-      (
+      let rest = behind_rest first.told.value (book_in first) (brings_of first) others more are.1 in (
         shown_in (first ∷ others),
         shown_entries keeps (first ∷ others) (are.0, behind_front first.told.value (book_in first) (brings_of first) others more are.1) told,
         record { rest = entries_in brings_of more; joined = shown_joined first others more },

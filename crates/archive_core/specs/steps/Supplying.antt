@@ -102,12 +102,3 @@ pub record KnowsMore {E : Type 0} (book : Book) (was is : ℕ) (result : Result 
   pub within : is ≤ length book.volumes - 1
   pub all : OnOk result (is ≡ length book.volumes - 1)
   pub few : IfOk result (λ n. was + n ≤ is)
-
--- ---- all are settled
-
--- The checkpoints of all sealed volumes are finished, of each but the last, in what a read gives and in each image, and just so many were missing.
-abbrev pub Settles : {D : Type 0} → Ghosts D → Book → D → D → ℕ → Type 0
-Settles d book old new n =
-    FirstAreFinished book (length book.volumes - 1) (d.reading new)
-    × Leaves (d.images new) (FirstAreFinished book (length book.volumes - 1))
-    × HasWithout (λ k. HasCheckpoint book k (d.reading old)) (length book.volumes - 1) n

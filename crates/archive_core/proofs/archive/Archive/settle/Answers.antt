@@ -29,5 +29,4 @@ returns g c =
     (settles_on g.D.Disk (disk_laws g) (holdings_of c.self.inside) c.self.inside.volumes new c.self.inside.settled c.settle_volumes.new.settled
     c.settle_volumes.ensures.keeps c.self.invariant c.settle_volumes.result (λ tells. subst (λ (l : List Spot). GoesThrough g.D.Disk (shelved_as c.self.inside.told.value (book_of c.self.inside.volumes.held) l) c.settle_volumes.new.settled
     (disk_of c.self.inside.volumes.journal) (disk_of c.settle_volumes.new.volumes.journal) c.settle_volumes.result) c.as_slice.ensures.value
-    (c.settle_volumes.ensures.went tells)) c.settle_volumes.ensures.knows
-    (λ tells. g.met.D.Disk.reading_is_image (disk_of new.journal) tells) c.settle_volumes.ensures.unasked c.settle_volumes.ensures.faults)
+    (c.settle_volumes.ensures.went tells)) c.settle_volumes.ensures.knows c.settle_volumes.ensures.unasked c.settle_volumes.ensures.faults)
