@@ -63,8 +63,7 @@ use Rattle.session.specs.declared.served.Served.{Served}
 use Rattle.session.specs.declared.served.Served.TheVariants as served
 use Rattle.session.specs.Traces.{terms_of}
 use Rattle.crew.specs.Crews.{IsEnd}
-use Rattle.proxy_run.specs.Follows.{TellsStop}
-use Rattle.proxy_run.specs.StopTexts.{numbered}
+use Rattle.proxy_run.specs.StopTexts.{TellsStop, numbered}
 use Rattle.warc_journal.specs.Extents.{cdxj_files, warc_files}
 use Rattle.warc_journal.specs.Journals.{disk_of}
 use Rattle.warc_text.specs.Sound.{IsSound}
@@ -299,8 +298,7 @@ module _ {D G L P N M C O : Type 0} (kinds : Kinds D G L P N M C O) where
       inr (inr (record { taken = taken; badly = subst IsNotFollowed (sym same) tt }))
   ended_answered known namespace site was is status taken told steady (Err (Source number (sources.Refused code))) same tells ends counts =
       inr (inr (record { taken = taken; badly = subst IsNotFollowed (sym same) tt }))
-  ended_answered known namespace site was is status taken told steady (Err (Source number sources.Memory)) same (inl printed) ends counts = absurd printed.1
-  ended_answered known namespace site was is status taken told steady (Err (Source number sources.Memory)) same (inr lacked) ends counts = inr (inl lacked.status_is)
+  ended_answered known namespace site was is status taken told steady (Err (Source number sources.Memory)) same lacked ends counts = inr (inl lacked.status_is)
   ended_answered known namespace site was is status taken told steady (Err (Piece number (pieces.Full count limit))) same tells ends counts =
       inr (inr (record { taken = taken; badly = subst IsNotFollowed (sym same) tt }))
   ended_answered known namespace site was is status taken told steady (Err (Piece number pieces.NotAPiece)) same tells ends counts =
@@ -309,8 +307,7 @@ module _ {D G L P N M C O : Type 0} (kinds : Kinds D G L P N M C O) where
       absurd (not_risen (kinds.disks.faults was.disk) (kinds.disks.faults is.disk) steady.disk counts.1)
   ended_answered known namespace site was is status taken told steady (Err (Piece number (pieces.Damaged at kept found))) same tells ends counts =
       absurd (told_then known namespace site was is status taken told number at kept found ends)
-  ended_answered known namespace site was is status taken told steady (Err (Piece number pieces.Memory)) same (inl printed) ends counts = absurd printed.1
-  ended_answered known namespace site was is status taken told steady (Err (Piece number pieces.Memory)) same (inr lacked) ends counts = inr (inl lacked.status_is)
+  ended_answered known namespace site was is status taken told steady (Err (Piece number pieces.Memory)) same lacked ends counts = inr (inl lacked.status_is)
 
   follow_answered : (known : Option Book) (namespace : List ℕ) (site : Site) (was is : Objects D G (List (N × C)) O) (status : Status)
       → IsTrue (told_at Checkpoints kinds.disks.tells known) → NoFaults kinds was is

@@ -20,27 +20,11 @@ use Rattle.command.specs.Objects.{Objects}
 use Rattle.command.specs.Opening.{IsOpened}
 use Rattle.command.specs.Printing.{LacksMemory, Printed, Prints, printed_as}
 use Rattle.replica.specs.Sources.{source_of}
-use Rattle.proxy_run.specs.StopTexts.{IsStopText, numbered}
+use Rattle.proxy_run.specs.StopTexts.{TellsStop, numbered}
 use Rattle.replica.specs.declared.following.Stop.{Stop}
-use Rattle.replica.specs.declared.following.Stop.TheVariants.{Source, Piece}
 use Rattle.command.specs.declared.status.Status.{Status}
-use Rattle.command.specs.declared.status.Status.TheVariants.{Done, Archive, Outside}
-use Rattle.archive_pieces.specs.declared.fault.PieceFault.TheVariants as pieces
+use Rattle.command.specs.declared.status.Status.TheVariants.{Done}
 use Rattle.warc_journal.specs.Journals.{disk_of}
-
--- The source is at fault, also where its piece is none of the next capture; or the archive is, which is full, damaged or on a disk that failed.
-abbrev pub stop_status : Stop → Status
-stop_status (Source number fault) = Outside
-stop_status (Piece number (pieces.Full count limit)) = Archive
-stop_status (Piece number pieces.NotAPiece) = Outside
-stop_status (Piece number pieces.DiskFault) = Archive
-stop_status (Piece number (pieces.Damaged at kept found)) = Archive
-stop_status (Piece number pieces.Memory) = Archive
-
--- Why no more captures were taken was printed, with the status of that; or there was no memory.
-abbrev pub TellsStop : {O : Type 0} → Sinks O → Stop → O → O → Status → Type 0
-TellsStop sinks stop was is status =
-    ((text : List ℕ) × IsStopText stop text × Prints sinks (stop_status stop) text was is status) ⊎ LacksMemory sinks was is status
 
 module _ {D N M O : Type 0} (disks : Disks D) (dialers : Dialers N M) (sinks : Sinks O) (tells : Bool) (source : Target) where
   -- A source was followed by an archive, with a dialer. How many captures there are was printed, or why no more were taken; or there was no
