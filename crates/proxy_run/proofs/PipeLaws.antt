@@ -16,17 +16,28 @@ use Rattle.outside.specs.Gate.{Connections}
 use Rattle.command.specs.Objects.{Around, Kinds, Objects}
 use Rattle.command.specs.Settling.{ClosesSettled, OpensSettled}
 use Rattle.proxy_run.specs.Pipes.{HasServed, Pipes, around_in}
-use Rattle.proxy_run.specs.Serving.{IsServedStatus, ServesOne, pipe_site}
+use Rattle.proxy_run.specs.Serving.{ServesOne, pipe_site, status_of}
 use Rattle.command.specs.declared.status.Status.{Status}
-use Rattle.command.specs.declared.status.Status.TheVariants.{Outside}
+use Rattle.command.specs.declared.status.Status.TheVariants.{Done, Memory, Outside}
 use Rattle.command.proofs.SettlingLaws.{closed_faults, closed_opens, ready_faults, ready_opens, ready_tells, told_tells}
 use Rattle.proxy_run.proofs.ConnectionLaws.{leaves_just}
 use Rattle.crew.specs.Crews.{IsEnd}
+use Rattle.session.specs.declared.served.Served.{Served}
+use Rattle.session.specs.declared.served.Served.TheVariants as served
 use Rattle.warc_journal.specs.Journals.{disk_of}
 
 -- nothing but connections might have been gained, and none was
 pub none_gained : (was : Around) (connections : Connections) → connections ≡ was.connections → record was { connections = connections } ≡ was
 none_gained was connections same = ap (λ (k : Connections). record was { connections = k }) same
+
+-- how the serving of a connection ends, over a gate that met no fault
+pub ends_by : (ended : Served) (status : Status) {F : Type 0} → status ≡ status_of ended → F
+    → (status ≡ Outside) ⊎ (((status ≡ Done) ⊎ (status ≡ Memory)) × F)
+ends_by served.Done status is same = inr (inl is, same)
+ends_by served.ClientBroke status is same = inl is
+ends_by served.ClientEndedEarly status is same = inl is
+ends_by (served.ClientRefused refusal) status is same = inr (inl is, same)
+ends_by served.WantOfMemory status is same = inr (inr is, same)
 
 -- ---- the archive
 
@@ -54,9 +65,9 @@ module _ {D G L P N M C O : Type 0} (kinds : Kinds D G L P N M C O) (laws : Disk
       → ServesOne true (record { site = pipe_site; clock_tells = kinds.clocks.tells }) (around_in kinds was) (around_in kinds is) (told_of kinds.disks before) (told_of kinds.disks after) said
       ⊎ (IsEnd (kinds.gates.closed was.gate) (kinds.gates.faults was.gate) (kinds.gates.faults is.gate) said × (around_in kinds is ≡ around_in kinds was) × (after ≡ before)))
       → GoesOn true (told_of kinds.disks before) (told_of kinds.disks after)
-      → IsServedStatus said → (said ≡ Outside) ⊎ (kinds.gates.faults is.gate ≡ kinds.gates.faults was.gate) → is.out ≡ was.out
+      → (said ≡ Outside) ⊎ (((said ≡ Done) ⊎ (said ≡ Memory)) × (kinds.gates.faults is.gate ≡ kinds.gates.faults was.gate)) → is.out ≡ was.out
       → Pipes kinds known asked was is status
-  pipes_by closed near bytes serves goes_on ends gate_failed silent =
+  pipes_by closed near bytes serves goes_on ends silent =
       let quiet = quiet_muted kinds.disks before.told
       (λ told. told_tells Checkpoints kinds.disks.tells known (sym (ready_tells kinds.disks opened) ∙ told)) was.disk (disk_of opened.held.journal) opened.opened.is.quiet in
       let first = ready_opens kinds.disks opened in
@@ -81,7 +92,6 @@ module _ {D G L P N M C O : Type 0} (kinds : Kinds D G L P N M C O) (laws : Disk
             (during t (omega (arith, le, quiet.later, first.later))
             (first.covered t (omega (arith, le, quiet.later)) (quiet.covered t le all)));
         ends = ends;
-        gate_failed = gate_failed;
         disk_faults = omega (arith, ready_faults kinds.disks opened, goes_on.faults, closed_faults kinds.disks closed);
         prints_nothing = silent;
       }

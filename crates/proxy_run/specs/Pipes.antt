@@ -13,9 +13,9 @@ use Rattle.command.specs.Objects.{Around, Kinds, Objects, told_around}
 use Rattle.command.specs.Opening.{IsNotOpened}
 use Rattle.command.specs.Printing.{printed_as}
 use Rattle.command.specs.Settling.{ClosesSettled, OpensSettled}
-use Rattle.proxy_run.specs.Serving.{IsServedStatus, ServesOne, pipe_site}
+use Rattle.proxy_run.specs.Serving.{ServesOne, pipe_site}
 use Rattle.command.specs.declared.status.Status.{Status}
-use Rattle.command.specs.declared.status.Status.TheVariants.{Outside}
+use Rattle.command.specs.declared.status.Status.TheVariants.{Done, Memory, Outside}
 use Rattle.session.specs.Images.{HasAllIds, OpensAtLast}
 use Rattle.session.specs.Traces.{terms_of}
 use Rattle.crew.specs.Crews.{IsEnd}
@@ -57,8 +57,7 @@ module _ {D G L P N M C O : Type 0} (kinds : Kinds D G L P N M C O) where
     -- whatever is told of the book, no finished text of its volumes lost a byte, at whatever moment a crash stopped that
     pub bytes : IsTrue kinds.disks.tells → KeepsFinished kinds.disks was.disk is.disk
     pub covered : StaysCovered (crash_of (muted before.told kinds.disks) was.disk) (crash_of (muted before.told kinds.disks) is.disk)
-    pub ends : IsServedStatus said
-    pub gate_failed : (said ≡ Outside) ⊎ (kinds.gates.faults is.gate ≡ kinds.gates.faults was.gate)
+    pub ends : (said ≡ Outside) ⊎ (((said ≡ Done) ⊎ (said ≡ Memory)) × (kinds.gates.faults is.gate ≡ kinds.gates.faults was.gate))
     pub disk_faults : kinds.disks.faults was.disk ≤ kinds.disks.faults is.disk
     pub prints_nothing : is.out ≡ was.out
 

@@ -1,5 +1,5 @@
 -- What serving the gate's first connection leaves.
-use Rattle.std.specs.Prelude.{◌≡◌, Bool, codes, ⊤}
+use Rattle.std.specs.Prelude.{◌≡◌, Bool, codes}
 use Rattle.archive_shelf.specs.Told.{Told}
 use Rattle.capture.specs.declared.site.Site.{Site}
 use Rattle.command.specs.Gates.{unheard}
@@ -7,7 +7,7 @@ use Rattle.outside.specs.Gate.{one_served}
 use Rattle.outside.specs.declared.gate.Heard.{Heard}
 use Rattle.command.specs.Objects.{Around}
 use Rattle.command.specs.declared.status.Status.{Status}
-use Rattle.command.specs.declared.status.Status.TheVariants.{Done, Words, Archive, Outside, Memory}
+use Rattle.command.specs.declared.status.Status.TheVariants.{Done, Outside, Memory}
 use Rattle.session.specs.Connection.{IsConnection, Setting}
 use Rattle.session.specs.declared.served.Served.{Served}
 use Rattle.session.specs.declared.served.Served.TheVariants as served
@@ -23,14 +23,6 @@ status_of served.ClientBroke = Outside
 status_of served.ClientEndedEarly = Outside
 status_of (served.ClientRefused refusal) = Done
 status_of served.WantOfMemory = Memory
-
--- the words were right, and the archive was opened
-abbrev pub IsServedStatus : Status → Type 0
-IsServedStatus Done = ⊤
-IsServedStatus Words = ⊥
-IsServedStatus Archive = ⊥
-IsServedStatus Outside = ⊤
-IsServedStatus Memory = ⊤
 
 module _ (alone : Bool) (setting : Setting) where
   -- One connection was given, served and hung up, and is all that the gate gave.

@@ -22,17 +22,10 @@ use Rattle.command.specs.declared.status.Status.TheVariants.{Archive, Done}
 
 -- ---- what is printed
 
--- how long a sound volume is, without an unfinished tail
-unfoldable pub sound_text : ℕ → List ℕ
-sound_text bytes = codes " sound " ++ decimal bytes
-
--- where the damage of a volume begins
-unfoldable pub damaged_text : ℕ → List ℕ
-damaged_text place = codes " damaged " ++ decimal place
-
+-- how long a sound volume is, without an unfinished tail, or where the damage of a volume begins
 abbrev pub verdict_text : Verdict → List ℕ
-verdict_text (Sound bytes) = sound_text bytes
-verdict_text (Damaged place) = damaged_text place
+verdict_text (Sound bytes) = codes " sound " ++ decimal bytes
+verdict_text (Damaged place) = codes " damaged " ++ decimal place
 
 -- the line of a volume
 unfoldable pub verdict_line : ℕ → Verdict → List ℕ

@@ -1,5 +1,5 @@
 //! What a check of an archive's volumes has found so far, and how that is told.
-ghost use Rattle.std.specs.Prelude.{◌≡◌, ◌++◌, ◌||◌, [], false, OnOk};
+ghost use Rattle.std.specs.Prelude.{◌≡◌, ◌++◌, ◌||◌, [], false, OnOk, decimal};
 ghost use Rattle.proxy_run.specs.Verifies as spec;
 
 use capture::{Memory, put_all, put_number};
@@ -70,25 +70,15 @@ fn put_verdict(out: &mut Vec<u8>, verdict: Verdict) -> Result<(), Memory>
     ensures { OnOk result (out.new.items ≡ out.old.items ++ spec.verdict_text verdict) }
 {
     match verdict {
-        Verdict::Sound { bytes } => put_sound(out, bytes),
-        Verdict::Damaged { place } => put_damaged(out, place),
+        Verdict::Sound { bytes } => put_with_number(out, b" sound ", bytes),
+        Verdict::Damaged { place } => put_with_number(out, b" damaged ", place),
     }
 }
 
-/// Puts how long a sound volume is.
-#[tactic(auto, unfolding(crate::specs::Verifies::sound_text))]
-fn put_sound(out: &mut Vec<u8>, bytes: u64) -> Result<(), Memory>
-    ensures { OnOk result (out.new.items ≡ out.old.items ++ spec.sound_text bytes) }
+/// Puts some words and a number.
+fn put_with_number(out: &mut Vec<u8>, words: &[u8], number: u64) -> Result<(), Memory>
+    ensures { OnOk result (out.new.items ≡ out.old.items ++ words.now ++ decimal number) }
 {
-    put_all(out, b" sound ")?;
-    put_number(out, bytes)
-}
-
-/// Puts where the damage of a volume begins.
-#[tactic(auto, unfolding(crate::specs::Verifies::damaged_text))]
-fn put_damaged(out: &mut Vec<u8>, place: u64) -> Result<(), Memory>
-    ensures { OnOk result (out.new.items ≡ out.old.items ++ spec.damaged_text place) }
-{
-    put_all(out, b" damaged ")?;
-    put_number(out, place)
+    put_all(out, words)?;
+    put_number(out, number)
 }

@@ -8,7 +8,7 @@ ghost use Rattle.outside.specs.Link.{IsFresh};
 ghost use Rattle.command.specs.Objects.{told_around};
 ghost use Rattle.proxy_run.specs.Serving as spec;
 ghost use Rattle.crew.specs.Crews.{IsEnd};
-ghost use Rattle.proxy_run.specs.Serving.{IsServedStatus, ServesOne, pipe_site};
+ghost use Rattle.proxy_run.specs.Serving.{ServesOne, pipe_site};
 
 use archive_core::{Archive, Since, StoodTexts, Watched};
 use archive_shelf::{Shelf, leading_books_grow};
@@ -35,8 +35,8 @@ pub(crate) fn serve_watched<D: Disk, G: Gate, N: Dialer, C: Clock, S: Since>(
         ⊎ (IsEnd (G.closed gate.old) (G.faults gate.old) (G.faults gate.new) result.1
         × (told_around G.Gate N.Dialer C.Clock gate.new member.new ≡ told_around G.Gate N.Dialer C.Clock gate.old member.old) × (result.0 ≡ archive)) }
     ensures goes_on { GoesOn true (told_of D.Disk archive) (told_of D.Disk result.0) }
-    ensures ends { IsServedStatus result.1 }
-    ensures gate_failed { (result.1 ≡ Status.Outside) ⊎ (G.faults gate.new ≡ G.faults gate.old) }
+    ensures ends { (result.1 ≡ Status.Outside)
+        ⊎ (((result.1 ≡ Status.Done) ⊎ (result.1 ≡ Status.Memory)) × (G.faults gate.new ≡ G.faults gate.old)) }
     ensures keeps { IsTrue D.tells → KeepsStood D.Disk S.stood result.0.journal }
 {
     // only the clauses read it
@@ -59,8 +59,8 @@ pub fn serve_first<S: Shelf, G: Gate, N: Dialer, C: Clock>(
         ⊎ (IsEnd (G.closed gate.old) (G.faults gate.old) (G.faults gate.new) result
         × (told_around G.Gate N.Dialer C.Clock gate.new member.new ≡ told_around G.Gate N.Dialer C.Clock gate.old member.old) × (shelf.new ≡ shelf.old)) }
     ensures goes_on { GoesOn S.alone (S.told shelf.old) (S.told shelf.new) }
-    ensures ends { IsServedStatus result }
-    ensures gate_failed { (result ≡ Status.Outside) ⊎ (G.faults gate.new ≡ G.faults gate.old) }
+    ensures ends { (result ≡ Status.Outside)
+        ⊎ (((result ≡ Status.Done) ⊎ (result ≡ Status.Memory)) × (G.faults gate.new ≡ G.faults gate.old)) }
 {
     leading_books_grow();
     let site = match site_of_pipe(alloc) {
@@ -93,8 +93,8 @@ fn serve_link<S: Shelf, G: Gate, N: Dialer, C: Clock>(
         (record (told_around G.Gate N.Dialer C.Clock gate.old member.old) { connections = before })
         (told_around G.Gate N.Dialer C.Clock gate.new member.new) (S.told shelf.old) (S.told shelf.new) result }
     ensures goes_on { GoesOn S.alone (S.told shelf.old) (S.told shelf.new) }
-    ensures ends { IsServedStatus result }
-    ensures same_faults { G.faults gate.new ≡ G.faults gate.old }
+    ensures ends { (result ≡ Status.Outside)
+        ⊎ (((result ≡ Status.Done) ⊎ (result ≡ Status.Memory)) × (G.faults gate.new ≡ G.faults gate.old)) }
 {
     let mut link = link;
     let served = serve(alloc, shelf, &mut link, &mut member.0, &mut member.1, site);
@@ -104,8 +104,7 @@ fn serve_link<S: Shelf, G: Gate, N: Dialer, C: Clock>(
 
 /// The status of a program that served one connection.
 fn status_of(served: Served) -> Status
-    ensures value { result ≡ spec.status_of served }
-    ensures ends { IsServedStatus result }
+    ensures { result ≡ spec.status_of served }
 {
     match served {
         Served::Done | Served::ClientRefused(_) => Status::Done,

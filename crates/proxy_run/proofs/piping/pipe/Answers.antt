@@ -60,4 +60,4 @@ returns g c =
       lasts = c.settle_and_close.ensures.lasts stood tells (c.serve_watched-archive.ensures.keeps tells);
     })
     (λ t u. c.serve_watched-archive.ensures.serves t u) c.serve_watched-archive.ensures.goes_on
-    c.serve_watched-archive.ensures.ends c.serve_watched-archive.ensures.gate_failed c.in-Ok.ensures.prints_nothing)
+    c.serve_watched-archive.ensures.ends c.in-Ok.ensures.prints_nothing)
