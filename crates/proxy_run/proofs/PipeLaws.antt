@@ -39,6 +39,11 @@ ends_by served.ClientEndedEarly status is same = inl is
 ends_by (served.ClientRefused refusal) status is same = inr (inl is, same)
 ends_by served.WantOfMemory status is same = inr (inr is, same)
 
+pub ends_with : {F G : Type 0} (status : Status) → (F → G) → (status ≡ Outside) ⊎ (((status ≡ Done) ⊎ (status ≡ Memory)) × F)
+    → (status ≡ Outside) ⊎ (((status ≡ Done) ⊎ (status ≡ Memory)) × G)
+ends_with status on (inl failed) = inl failed
+ends_with status on (inr ends) = inr (ends.0, on ends.1)
+
 -- ---- the archive
 
 module _ {D G L P N M C O : Type 0} (kinds : Kinds D G L P N M C O) (laws : DiskLaws kinds.disks) (was is : Objects D G (N × C) O) (known : Option Book)

@@ -1,6 +1,6 @@
 -- `verify` of an archive that is ready.
 use Rattle.std.proofs.Common.{◌≡◌, ◌⊎◌, IsTrue, List, Option, None, ap, ◌∙◌, inl, inr}
-use Rattle.std.specs.Prelude.{Bool}
+use Rattle.std.specs.Prelude.{Bool, if◌then◌else◌}
 use Rattle.capture.specs.declared.book.Book.{Book}
 use Rattle.archive_volumes.specs.Facts.{facts_of}
 use Rattle.archive_core.specs.Known.{by_checkpoints}
@@ -15,9 +15,9 @@ use Rattle.command.specs.Printing.{printed_as}
 use Rattle.archive_shelf.specs.declared.depth.Depth.TheVariants.{Checkpoints}
 use Rattle.proxy_run.specs.Pipes.{Refuses}
 use Rattle.proxy_run.specs.Verified.{IsSureOf, VerifiesAreAnswered}
-use Rattle.proxy_run.specs.Verifies.{ChecksVolumes, IsVerified, lines_of, status_by}
+use Rattle.proxy_run.specs.Verifies.{ChecksVolumes, IsVerified, lines_of}
 use Rattle.command.specs.declared.status.Status.{Status}
-use Rattle.command.specs.declared.status.Status.TheVariants.{Done, Memory}
+use Rattle.command.specs.declared.status.Status.TheVariants.{Archive, Done, Memory}
 
 module _ {D G L P N M C O : Type 0} (kinds : Kinds D G L P N M C O) where
   checks_answered : (was is : Objects D G (List (N × C)) O) (status : Status) (book : Book) → IsTrue kinds.disks.tells → NoFaults kinds was is
@@ -27,7 +27,7 @@ module _ {D G L P N M C O : Type 0} (kinds : Kinds D G L P N M C O) where
   checks_answered was is status book told steady stands (inl all) =
       let sound = sound_volumes_verify (kinds.disks.reading was.disk) book all.checked stands all.all (all.right told) in
       elim (printed_or_lacked kinds.sinks _ (lines_of all.checked) was.out is.out status steady.out (inl all.printed)) [
-        | inl done ↦ inl (done ∙ ap (λ (b : Bool). status_by b) sound)
+        | inl done ↦ inl (done ∙ ap (λ (b : Bool). if b then Archive else Done) sound)
         | inr memory ↦ inr memory
       ]
   checks_answered was is status book told steady stands (inr (inl front)) =

@@ -1,5 +1,5 @@
 -- What the command `verify` leaves.
-use Rattle.std.specs.Prelude.{◌≡◌, ◌⊎◌, ℕ, suc, Bool, true, false, nat_eq, ◌||◌, List, [], ◌∷◌, ◌++◌, codes, decimal, length, map, All, IsTrue}
+use Rattle.std.specs.Prelude.{◌≡◌, ◌⊎◌, ℕ, suc, Bool, true, false, if◌then◌else◌, nat_eq, ◌||◌, List, [], ◌∷◌, ◌++◌, codes, decimal, length, map, All, IsTrue}
 use Rattle.std.specs.List.{flat_map}
 use Rattle.archive_core.specs.Holdings.{Holdings}
 use Rattle.archive_volumes.specs.Facts.{facts_of}
@@ -54,10 +54,6 @@ abbrev pub has_damage : List Checked → Bool
 has_damage [] = false
 has_damage (c ∷ checked) = is_damaged c.verdict || has_damage checked
 
-abbrev pub status_by : Bool → Status
-status_by true = Archive
-status_by false = Done
-
 -- what is due in a volume, of so many that an archive of this namespace has; behind the last one alone a tail may stand
 abbrev pub due_in : (namespace : List ℕ) → (count : ℕ) → VolumeFacts → Volume
 due_in namespace count facts = volume_of facts.volume namespace facts.first facts.count (nat_eq (suc facts.volume) count)
@@ -80,7 +76,7 @@ module _ {D O : Type 0} (disks : Disks D) (sinks : Sinks O) (namespace : List �
     pub all : facts_in checked ≡ volumes
     pub right : AreRight disks namespace volumes was checked
     pub same_faults : disks.faults is ≡ disks.faults was
-    pub printed : Prints sinks (status_by (has_damage checked)) (lines_of checked) out_was out_is status
+    pub printed : Prints sinks (if has_damage checked then Archive else Done) (lines_of checked) out_was out_is status
 
   -- The disk failed behind the check of the first of them, whose lines were printed before that was told.
   pub record BreaksOff : Type 0 where

@@ -1,7 +1,7 @@
 -- The gate's connection was served, or it gave none.
-use Rattle.std.proofs.Common.{refl, inl, inr}
+use Rattle.std.proofs.Common.{refl, ◌∙◌, inl, inr}
 use Rattle.command.specs.Objects.{told_around}
-use Rattle.proxy_run.proofs.PipeLaws.{none_gained}
+use Rattle.proxy_run.proofs.PipeLaws.{ends_with, none_gained}
 use Rattle.proxy_run.proofs.serving.serve_first.Goals as goal
 
 pub returns-in-Err-clause-serves : goal.returns-in-Err-clause-serves
@@ -22,3 +22,18 @@ returns-in-Failed-clause-serves g c t u =
 pub returns-clause-serves : goal.returns-clause-serves
 returns-clause-serves g c t u =
     inr (tt, none_gained (told_around g.G.Gate g.N.Dialer g.C.Clock c.args.gate.now c.args.member.now) _ (c.in-Memory.ensures.gives t), refl)
+
+pub returns-in-Err-clause-ends : goal.returns-in-Err-clause-ends
+returns-in-Err-clause-ends g c = inr (inr refl, refl)
+
+pub returns-in-Connection-clause-ends : goal.returns-in-Connection-clause-ends
+returns-in-Connection-clause-ends g c = ends_with c.serve_link.result (λ same. same ∙ c.in-Connection.ensures.counts) c.serve_link.ensures.ends
+
+pub returns-in-Closed-clause-ends : goal.returns-in-Closed-clause-ends
+returns-in-Closed-clause-ends g c = inr (inl refl, c.in-Closed.ensures.counts)
+
+pub returns-in-Failed-clause-ends : goal.returns-in-Failed-clause-ends
+returns-in-Failed-clause-ends g c = inl refl
+
+pub returns-clause-ends : goal.returns-clause-ends
+returns-clause-ends g c = inr (inr refl, c.in-Memory.ensures.counts)
