@@ -1,5 +1,5 @@
 -- What a connection over an archive leaves of its images.
-use Rattle.std.proofs.Common.{◌≡◌, ℕ, ◌+◌, true, IsTrue, List, [], ◌∷◌, refl, sym, subst, ◌∙◌, inl, inr, arith}
+use Rattle.std.proofs.Common.{◌≡◌, ℕ, ◌+◌, true, IsTrue, List, [], ◌∷◌, refl, sym, subst, ◌∙◌, arith}
 use Rattle.archive_core.specs.Holdings.{Holdings, contents_of}
 use Rattle.archive_core.specs.Told.{told_of}
 use Rattle.archive_shelf.proofs.CallLaws.{leads_same}
@@ -73,8 +73,7 @@ failed_one terms e CodingRefused traces Before x h none one o = absurd h
 -- behind a round in which the disk didn't fail just its book may be opened, where just the one before it might be
 behind_one : (terms : Terms) (r : Round) (outcome : Outcome) (Before : Book → Type 0) (x : Book) → IsDecided terms r outcome → disk_fault outcome ≡ 0
     → (Before x → SameBook x r.traces.before.book) → OpensBehind terms r.traces (deed_of outcome) Before x → SameBook x r.traces.after.book
-behind_one terms r Undecided Before x (lacking, inl (begun, idle)) none one o = stays_one terms r.traces Before x idle.untouched one o
-behind_one terms r Undecided Before x (lacking, inr (e, asked, out)) none one o = stays_one terms r.traces Before x out.untouched one o
+behind_one terms r Undecided Before x (lacking, stays, how) none one o = stays_one terms r.traces Before x stays one o
 behind_one terms r (Refused head refusal) Before x h none one o = stays_one terms r.traces Before x h.1.untouched one o
 behind_one terms r (Exchanged e (Fails refusal)) Before x h none one o = failed_one terms e refusal r.traces Before x h.1 none one o
 behind_one terms r (Exchanged e (Passes received payload)) Before x h none one o = o

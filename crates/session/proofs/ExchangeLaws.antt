@@ -20,11 +20,11 @@ use Rattle.session.specs.steps.Answering.{Incoming, MakesRound}
 use Rattle.session.specs.Connection.{Setting}
 use Rattle.session.specs.Exchanges.{Exchange, Reply, Fails, Passes}
 use Rattle.session.specs.steps.Declining.{Refuses}
-use Rattle.session.specs.steps.Exchanging.{AnswersProxied, Around, Comes, Replies, is_cut_off, reply_text, round_of, terms_in, traces_of, view_before, IsLeft, outcome_of}
+use Rattle.session.specs.steps.Exchanging.{AnswersProxied, Around, Comes, Replies, is_cut_off, reply_text, round_of, traces_of, view_before, IsLeft, outcome_of}
 use Rattle.session.specs.Gains.{World}
 use Rattle.session.specs.Images.{NoDeed, deed_of}
 use Rattle.session.specs.Requests.{IsAsked, IsInterim, closes_after}
-use Rattle.session.specs.Rounds.{Exchanged, disk_fault, numbers_by, origin_fault, Round, IsDecided, IsTextOf, closes_outcome, is_from_shown, refusal_in}
+use Rattle.session.specs.Rounds.{Exchanged, disk_fault, numbers_by, origin_fault, IsTextOf, closes_outcome, is_from_shown, refusal_in}
 use Rattle.session.specs.Traces.{CountsMet, Terms}
 use Rattle.session.specs.steps.Givens.{Given}
 use Rattle.session.proofs.GainLaws.{none_met}
@@ -40,12 +40,6 @@ around_of times transcripts was is = record {
   faults_before = was.dialer_faults;
   faults_now = is.dialer_faults;
 }
-
--- a lawful round was made, where its text is told
-decided_so : (terms : Terms) (e : Exchange) (r : Round) (reply : Option Reply) → IsAsked terms.site r.wire e.message (Origin e.target)
-    → IsLeft terms e r.lacked reply r.traces → IsDecided terms r (outcome_of e reply)
-decided_so terms e r None asked (lacking, out) = (lacking, inr (e, asked, out))
-decided_so terms e r (Some reply) asked by = (asked, by)
 
 -- the text of a reply, and whether the connection closes with it
 pub is_text_of : (terms : Terms) (served : ℕ) (e : Exchange) (reply : Reply) (text : List ℕ)
@@ -71,6 +65,7 @@ unrefused : (e : Exchange) (reply : Option Reply) → refusal_in (outcome_of e r
 unrefused e None = refl
 unrefused e (Some reply) = refl
 
+-- a lawful round was made, where its text is told
 made : (alone : Bool) (setting : Setting) (e : Exchange) (incoming : Incoming) (lacked : Bool) (reply : Option Reply) (times : List ℕ)
     (transcripts : List Transcript) (text : List ℕ) (was is : World)
     → IsAsked setting.site incoming.wire e.message (Origin e.target) → IsInterim setting.site incoming.wire incoming.interim
@@ -84,9 +79,7 @@ made alone setting e incoming lacked reply times transcripts text was is asked k
   traces = traces_of alone setting.site e (around_of times transcripts was is) h.found was.shelf is.shelf;
   made = record {
     lawful = record {
-      decided = decided_so (terms_at alone setting was.shelf) e
-          (round_of alone setting.site e incoming reply lacked (traces_of alone setting.site e (around_of times transcripts was is) h.found was.shelf is.shelf) text)
-          reply asked h.by;
+      decided = h.by incoming text asked;
       dialer = h.dialer;
       disk = h.disk;
       kept = h.kept;
@@ -158,7 +151,7 @@ pub unwritten : (alone : Bool) (site : Site) (e : Exchange) (lacked : Bool) (rep
     → numbers_by (outcome_of e reply) (view_before alone site e around is.contents.seen was) ≡ []
     → CountsMet (origin_fault (outcome_of e reply)) around.faults_before around.faults_now
     → CountsMet (disk_fault (outcome_of e reply)) was.faults is.faults
-    → IsLeft (terms_in alone site e was) e lacked reply (traces_of alone site e around is.contents.seen was is)
+    → IsLeft alone site e was lacked reply (traces_of alone site e around is.contents.seen was is)
     → Replies alone site e lacked reply around was is
 unwritten alone site e lacked reply around was is earlier stays quiet deed none dialer disk by = record {
   found = is.contents.seen;
@@ -181,7 +174,7 @@ pub untouched : (alone : Bool) (site : Site) (e : Exchange) (lacked : Bool) (rep
     → numbers_by (outcome_of e reply) (view_before alone site e around shelf.contents.seen shelf) ≡ []
     → CountsMet (origin_fault (outcome_of e reply)) around.faults_before around.faults_now
     → CountsMet (disk_fault (outcome_of e reply)) shelf.faults shelf.faults
-    → IsLeft (terms_in alone site e shelf) e lacked reply (traces_of alone site e around shelf.contents.seen shelf shelf)
+    → IsLeft alone site e shelf lacked reply (traces_of alone site e around shelf.contents.seen shelf shelf)
     → Replies alone site e lacked reply around shelf shelf
 untouched alone site e lacked reply around shelf earlier deed none dialer disk by =
     unwritten alone site e lacked reply around shelf shelf earlier (stays_itself alone shelf.contents) (writes_nothing_itself alone shelf)
@@ -198,16 +191,11 @@ pub past_the_clock : (alone : Bool) (site : Site) (e : Exchange) (lacked : Bool)
     → IsEarlier shelf.crash → (InRange now → ⊥) → Replies alone site e lacked (Some (Fails (ClockRange now))) (clock_alone now faults) shelf shelf
 past_the_clock alone site e lacked now faults shelf earlier past =
     untouched alone site e lacked (Some (Fails (ClockRange now))) (clock_alone now faults) shelf earlier refl refl (none_met faults) (none_met shelf.faults)
-    (refl, past, refl, record { book = refl; shown = shown_itself alone shelf.contents.shown })
+    (λ incoming text asked. (asked, (refl, past, refl, record { book = refl; shown = shown_itself alone shelf.contents.shown })))
 
 -- there was no memory to compose the request
 pub unsent : (alone : Bool) (site : Site) (e : Exchange) (now faults : ℕ) (shelf : Told)
     → IsEarlier shelf.crash → Replies alone site e true None (clock_alone now faults) shelf shelf
 unsent alone site e now faults shelf earlier =
-    untouched alone site e true None (clock_alone now faults) shelf earlier refl refl (none_met faults) (none_met shelf.faults) (
-      refl,
-      record {
-        begun = inr (inl ((now, refl), refl));
-        untouched = record { book = refl; shown = shown_itself alone shelf.contents.shown };
-      },
-    )
+    untouched alone site e true None (clock_alone now faults) shelf earlier refl refl (none_met faults) (none_met shelf.faults)
+    (λ incoming text asked. (refl, record { book = refl; shown = shown_itself alone shelf.contents.shown }, inr (e, asked, inl (now, refl, refl))))

@@ -82,10 +82,10 @@ module _ (alone : Bool) (site : Site) (e : Exchange) (closes : Bool) (date : ℕ
     comes = refused_comes alone site e refusal asks closes (dialed date (logs.t ∷ []) before now) result shelf shelf same
         (λ lacked. untouched alone site e lacked (Some (Fails refusal)) (dialed date (logs.t ∷ []) before now) shelf earlier deed refl dialer
         (subst (λ (n : ℕ). CountsMet n shelf.faults shelf.faults) (sym none) (none_met shelf.faults))
-        (is logs.t (
+        (λ incoming text asked. (asked, is logs.t (
           record { date = date; timed = refl; in_range = in_range; t = logs.t; linked = refl; fetched = logs.fetched },
           record { book = refl; shown = shown_itself alone shelf.contents.shown },
-        ))) refuses;
+        )))) refuses;
   }
 
   -- by the fault
@@ -97,7 +97,8 @@ module _ (alone : Bool) (site : Site) (e : Exchange) (closes : Bool) (date : ℕ
     logged = same_log old new logs;
     comes = refused_comes alone site e DialFault asks closes (dialed date [] before now) result shelf shelf same
         (λ lacked. untouched alone site e lacked (Some (Fails DialFault)) (dialed date [] before now) shelf earlier refl refl
-        (rose_met before now counts.1) (none_met shelf.faults) (date, refl, in_range, refl, record { book = refl; shown = shown_itself alone shelf.contents.shown })) fails;
+        (rose_met before now counts.1) (none_met shelf.faults)
+        (λ incoming text asked. (asked, (date, refl, in_range, refl, record { book = refl; shown = shown_itself alone shelf.contents.shown })))) fails;
   }
   fetch_failed fetch_fault.OriginFault logs counts fails =
       vain fetch_fault.OriginFault OriginFault logs refl (rose_met before now counts.1) refl (λ t h. h) fails
@@ -114,24 +115,17 @@ module _ (alone : Bool) (site : Site) (e : Exchange) (closes : Bool) (date : ℕ
     logged = same_log old new none;
     comes = lacking_comes alone site e closes (dialed date [] before now) result shelf shelf
         (untouched alone site e true None (dialed date [] before now) shelf earlier refl refl
-        (stayed_met before now counts) (none_met shelf.faults) (
-          refl,
-          record {
-            begun = inr (inl ((date, refl), refl));
-            untouched = record { book = refl; shown = shown_itself alone shelf.contents.shown };
-          },
-        )) fails;
+        (stayed_met before now counts) (none_met shelf.faults)
+        (λ incoming text asked. (refl, record { book = refl; shown = shown_itself alone shelf.contents.shown }, inr (e, asked, inl (date, refl, refl))))) fails;
   }
   fetch_failed fetch_fault.Memory (inr logs) counts fails = record {
     transcripts = logs.t ∷ [];
     logged = logs.gains;
     comes = lacking_comes alone site e closes (dialed date (logs.t ∷ []) before now) result shelf shelf
         (untouched alone site e true None (dialed date (logs.t ∷ []) before now) shelf earlier refl refl
-        (stayed_met before now counts) (none_met shelf.faults) (
+        (stayed_met before now counts) (none_met shelf.faults) (λ incoming text asked. (
           refl,
-          record {
-            begun = inr (inr (record { date = date; timed = refl; in_range = in_range; t = logs.t; linked = refl; fetched = logs.fetched }));
-            untouched = record { book = refl; shown = shown_itself alone shelf.contents.shown };
-          },
-        )) fails;
+          record { book = refl; shown = shown_itself alone shelf.contents.shown },
+          inr (e, asked, inr (record { date = date; timed = refl; in_range = in_range; t = logs.t; linked = refl; fetched = logs.fetched })),
+        ))) fails;
   }

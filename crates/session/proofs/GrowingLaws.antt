@@ -65,8 +65,7 @@ failure_leaves terms e SecureRefused traces h = absurd h
 failure_leaves terms e CodingRefused traces h = absurd h
 
 pub decided_leaves : (terms : Terms) (r : Round) (outcome : Outcome) → IsDecided terms r outcome → Leaves terms r.traces
-decided_leaves terms r Undecided (lacking, inl (begun, idle)) = Stayed idle.untouched
-decided_leaves terms r Undecided (lacking, inr (e, asked, out)) = Stayed out.untouched
+decided_leaves terms r Undecided (lacking, stays, how) = Stayed stays
 decided_leaves terms r (Refused head refusal) h = Stayed h.1.untouched
 decided_leaves terms r (Exchanged e (Fails refusal)) h = elim (failure_leaves terms e refusal r.traces h.1) [
   | inl stays ↦ Stayed stays

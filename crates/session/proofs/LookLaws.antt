@@ -64,7 +64,7 @@ found_answers alone setting q reply closes fault result was mid is earlier h kno
 pub found_lacking : (alone : Bool) (setting : Setting) (q : SiteRequest) (closes : Bool) (memory : Memory) (was mid is : Told) → IsEarlier is.crash
     → LooksOn alone was mid → KnowsBook alone mid.contents → ReadsOn alone false mid is → AnswersVisit alone setting q closes (Err memory) was is
 found_lacking alone setting q closes memory was mid is earlier h knows k incoming then now answers links faults closing asked known =
-    undecided alone setting incoming q mid.contents.shown was is then now answers links faults earlier asked known
+    undecided alone setting incoming mid.contents.shown was is then now answers links faults earlier known
     (read_both alone false was mid is (looked_reads alone was mid h) k) h.looks.shown k.stays.shown
 
 pub found_lacking_by : (alone : Bool) (setting : Setting) (q : SiteRequest) (closes : Bool) (result : Result Given Memory) (was mid is : Told) → IsEarlier is.crash

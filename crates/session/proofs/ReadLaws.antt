@@ -239,7 +239,6 @@ out_of_memory site from stream interim standing None to now holds owed h tries =
     GivingUp (record {
       wire = [];
       interim = interim;
-      begun = inl (inl (refl, refl));
       interim_is = inr owed;
       to = record { heard = to; pending = stream ++ parts.0 };
       taken = record { accounts = parts.1; said = h.said };
@@ -251,7 +250,6 @@ out_of_memory site from stream interim standing (Some head) to now holds owed h 
     GivingUp (record {
       wire = stream;
       interim = interim;
-      begun = inr (inl (head, holds, owed.0));
       interim_is = inl (inl ((head, holds, owed.1)));
       to = record { heard = to; pending = parts.0 };
       taken = record { accounts = parts.1; said = h.said };
@@ -352,7 +350,6 @@ looked_ends site from stream pending head before now end begins taken (inl (refu
 looked_ends site from stream pending head before now end begins taken (inr (inl (tries, e))) = GivingUp (record {
   wire = [];
   interim = [];
-  begun = inl (inl (refl, refl));
   interim_is = inr refl;
   to = record { heard = before; pending = stream ++ pending };
   taken = record { accounts = taken.accounts; said = taken.said };
@@ -428,7 +425,6 @@ pub read_without_memory : (site : Site) (from mid : Client) (stream grown : List
 read_without_memory site from mid stream grown head aim to now h begins accounts same tries = GivingUp (record {
   wire = grown;
   interim = interim_of site head;
-  begun = inr (inl (head, begins, (aim, h.aimed)));
   interim_is = inl (inl ((head, begins, refl)));
   to = to;
   taken = record { accounts = λ done e. accounts done (h.taken.accounts done e); said = says_same _ _ _ _ h.taken.said same };

@@ -17,7 +17,7 @@ use Rattle.outside.specs.Calls.{one_more}
 use Rattle.outside.specs.declared.gate.Heard.{Heard}
 use Rattle.session.specs.steps.Reads.{Client, HasTaken}
 use Rattle.session.specs.steps.Wire.{EndsRefusal, Tries}
-use Rattle.session.specs.Requests.{IsBegun, IsInterim, IsRefused, answers_head}
+use Rattle.session.specs.Requests.{IsInterim, IsRefused, answers_head}
 use Rattle.session.specs.Rounds.{Round, Undecided, Refused, IsRound, is_from_shown}
 use Rattle.session.specs.Traces.{Terms, View, Traces}
 use Rattle.session.specs.declared.served.Served.{Served}
@@ -81,10 +81,10 @@ lacking_round wire interim view = record {
   text = memory_text;
 }
 
-lacking_lawful : (terms : Terms) (served : ℕ) (wire interim : List ℕ) (view : View) → IsBegun terms.site wire
+lacking_lawful : (terms : Terms) (served : ℕ) (wire interim : List ℕ) (view : View)
     → IsInterim terms.site wire interim ⊎ (interim ≡ []) → IsRound terms served (lacking_round wire interim view)
-lacking_lawful terms served wire interim view begun known = record {
-  decided = (refl, inl (begun, record { times = refl; transcripts = refl; untouched = record { book = refl; shown = shown_itself terms.alone view.shown } }));
+lacking_lawful terms served wire interim view known = record {
+  decided = (refl, record { book = refl; shown = shown_itself terms.alone view.shown }, inl (refl, refl));
   kept = λ lacking. refl;
   dialer = none_met view.dialer_faults;
   disk = none_met view.disk_faults;
@@ -92,18 +92,18 @@ lacking_lawful terms served wire interim view begun known = record {
   text_is = refl;
 }
 
--- the connection is given up with the text that says so, whatever was begun
+-- the connection is given up with the text that says so
 pub gave_up : (alone : Bool) (setting : Setting) (wire interim : List ℕ) (from : Stage) (to : Client) (now : Heard)
-    → BooksLeadToThemselves → IsBegun setting.site wire → IsInterim setting.site wire interim ⊎ (interim ≡ [])
+    → BooksLeadToThemselves → IsInterim setting.site wire interim ⊎ (interim ≡ [])
     → HasTaken (client_at from) wire interim to → Tries memory_text to.heard now
     → IsRemainder alone setting from (heard_now from.world now) WantOfMemory
-gave_up alone setting wire interim from to now itself begun known taken tries = by_trying tries where
+gave_up alone setting wire interim from to now itself known taken tries = by_trying tries where
   r : Round
   r = lacking_round wire interim (view_at from.world)
 
   made : IsMade alone setting from.served r from.world (heard_now from.world now)
   made = made_idle alone setting from.served r from.world now itself
-      (lacking_lawful (terms_at alone setting from.world.shelf) from.served wire interim (view_at from.world) begun known)
+      (lacking_lawful (terms_at alone setting from.world.shelf) from.served wire interim (view_at from.world) known)
       (record { traces = refl; gains = refl; deed = refl; shown = refl })
 
   by_trying : Tries memory_text to.heard now → IsRemainder alone setting from (heard_now from.world now) WantOfMemory
@@ -126,7 +126,7 @@ gave_up alone setting wire interim from to now itself begun known taken tries = 
 pub gave_up_at_once : (alone : Bool) (setting : Setting) (from : Stage) (now : Heard) → BooksLeadToThemselves
     → Tries memory_text from.world.heard now → IsRemainder alone setting from (heard_now from.world now) WantOfMemory
 gave_up_at_once alone setting from now itself tries =
-    gave_up alone setting [] [] from (client_at from) now itself (inl (inl (refl, refl))) (inr refl)
+    gave_up alone setting [] [] from (client_at from) now itself (inr refl)
     (record { accounts = λ done e. e; said = says_itself from.world.heard }) tries
 
 -- ---- bytes that were refused
@@ -186,4 +186,4 @@ refused_bytes alone setting head refusal wire interim from to now result itself 
   by_result Done h = absurd h
   by_result ClientEndedEarly h = absurd h
   by_result WantOfMemory tries =
-      gave_up alone setting wire interim from to now itself (inr (inr (head, refusal, refused))) (inl known) taken tries
+      gave_up alone setting wire interim from to now itself (inl known) taken tries

@@ -33,7 +33,7 @@ reading_ends alone setting from now end itself (Breaking h) = rw h.ends (broke_i
 reading_ends alone setting from now end itself (Refusing h) =
     refused_bytes alone setting h.head h.refusal h.wire h.interim from h.to now end itself h.refused h.interim_is h.taken h.ends
 reading_ends alone setting from now end itself (GivingUp h) =
-    rw h.ends (gave_up alone setting h.wire h.interim from h.to now itself h.begun h.interim_is h.taken h.tries)
+    rw h.ends (gave_up alone setting h.wire h.interim from h.to now itself h.interim_is h.taken h.tries)
 
 -- a request that was read
 abbrev pub incoming_of : {site : Site} {from : Client} {message : RequestMessage} {aim : Aim} {to : Client} → ℕ → HasRead site from message aim to → Incoming

@@ -15,7 +15,7 @@ use Rattle.exchange.specs.declared.fetching.FetchFault.{FetchFault}
 use Rattle.exchange.specs.declared.fetching.FetchFault.TheVariants as fetch_fault
 use Rattle.http_head.specs.declared.head.Received.{Received}
 use Rattle.outside.specs.declared.dialer.Transcript.{Transcript}
-use Rattle.session.specs.Exchanges.{Exchange, Fails, Passes, Fetched, IsPassedOn, IsReply, RanOut}
+use Rattle.session.specs.Exchanges.{Exchange, Fails, Passes, Fetched, IsPassedOn, IsReply}
 use Rattle.session.specs.Gains.{gains_of}
 use Rattle.session.specs.Laws.{IsDialedFor, OriginsAloneAreDialed, OtherRoundsStoreNothing, PassedOnResponsesStay}
 use Rattle.session.specs.Requests.{IsAsked}
@@ -108,19 +108,11 @@ module _ (site : Site) (r : Round) (t : Transcript) (there : Contains r.traces.t
   failure_dialed terms e SecureRefused asked h = absurd h
   failure_dialed terms e CodingRefused asked h = absurd h
 
-  ran_out_dialed : (terms : Terms) (e : Exchange) → IsAsked site r.wire e.message (Origin e.target) → RanOut terms e r.traces → IsDialedFor site r t
-  ran_out_dialed terms e asked h = elim h.begun [
-    | inl (untimed, none) ↦ nobody r.traces.transcripts t none there
-    | inr more ↦ elim more [
-      | inl (timed, none) ↦ nobody r.traces.transcripts t none there
-      | inr fetched ↦ fetched_from e (Err fetch_fault.Memory) asked fetched
-    ]
-  ]
-
 dialed : (terms : Terms) (r : Round) (t : Transcript) (outcome : Outcome) → IsDecided terms r outcome → Contains r.traces.transcripts t
     → IsDialedFor terms.site r t
-dialed terms r t Undecided (lacking, inl (begun, idle)) there = nobody r.traces.transcripts t idle.transcripts there
-dialed terms r t Undecided (lacking, inr (e, asked, out)) there = ran_out_dialed terms.site r t there terms e asked out
+dialed terms r t Undecided (lacking, stays, inl (untimed, none)) there = nobody r.traces.transcripts t none there
+dialed terms r t Undecided (lacking, stays, inr (e, asked, inl (now, timed, none))) there = nobody r.traces.transcripts t none there
+dialed terms r t Undecided (lacking, stays, inr (e, asked, inr fetched)) there = fetched_from terms.site r t there e (Err fetch_fault.Memory) asked fetched
 dialed terms r t (Refused head refusal) h there = nobody r.traces.transcripts t h.1.transcripts there
 dialed terms r t (Exchanged e (Fails refusal)) h there = failure_dialed terms.site r t there terms e refusal h.0 h.1
 dialed terms r t (Exchanged e (Passes received payload)) h there = fetched_from terms.site r t there e (Ok received) h.0 h.1.fetched
@@ -150,8 +142,7 @@ others_store_none terms served r lawful other = of r.outcome refl lawful.decided
   same stays = ap (λ (book : Book). captures book) stays.book
 
   of : (outcome : Outcome) → r.outcome ≡ outcome → IsDecided terms r outcome → captures r.traces.after.book ≡ captures r.traces.before.book
-  of Undecided e (lacking, inl (begun, idle)) = same idle.untouched
-  of Undecided e (lacking, inr (exchange, asked, out)) = same out.untouched
+  of Undecided e (lacking, stays, how) = same stays
   of (Refused head refusal) e h = same h.1.untouched
   of (Exchanged exchange (Fails refusal)) e h = elim (failure_leaves terms exchange refusal r.traces h.1) [
     | inl stays ↦ same stays

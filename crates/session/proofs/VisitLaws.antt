@@ -1,8 +1,5 @@
 -- What deciding a request to the site makes of a round.
-use Rattle.http_head.specs.declared.head.RequestMessage.{RequestMessage}
-use Rattle.exchange.specs.declared.aim.Aim.{Aim}
 use Rattle.capture.specs.Methods.{asks_for_head}
-use Rattle.capture.specs.declared.site.Site.{Site}
 use Rattle.std.proofs.Common.{◌≡◌, ◌≢◌, ◌==◌, inl, inr, ℕ, ◌≤◌, Bool, true, false, IsTrue, IsErr, List, [], ◌++◌, Some, Result, Ok, Err, refl, sym, ◌∙◌, ap, subst, arith}
 use Rattle.std.proofs.lemmas.Bool.{eqb-true, eqb-false, false≢true}
 use Rattle.std.proofs.lemmas.List.{append-nil}
@@ -30,7 +27,7 @@ use Rattle.session.specs.steps.Stages.{terms_at}
 use Rattle.session.specs.steps.Answering.{Incoming, MakesRound, IsAnswered, Answers, AnswersVisit}
 use Rattle.session.specs.Connection.{Setting}
 use Rattle.session.specs.steps.Declining.{Declines, DeclinesPiece, refusal_by_bring}
-use Rattle.session.specs.Requests.{IsAsked, IsInterim, closes_after, IsBegun}
+use Rattle.session.specs.Requests.{IsAsked, IsInterim, closes_after}
 use Rattle.session.specs.Rounds.{Round, Visited, IsRound, disk_fault, Undecided, is_from_shown}
 use Rattle.session.specs.SiteAnswers.{SiteRequest, SiteReply, Refuses, HasNoMore, Ships, Asks, IsSiteReply, IsSiteText, nothing_text, Replays}
 use Rattle.session.specs.Traces.{Terms, View, CountsMet}
@@ -175,14 +172,6 @@ visit_lacked alone setting incoming q reply shown was is then now answers links 
       text_is = refl;
     })
 
--- a request that was read begins with its head
-asked_begun : (site : Site) (wire : List ℕ) (message : RequestMessage) (aim : Aim) → IsAsked site wire message aim → IsBegun site wire
-asked_begun site wire message aim asked = inr (inl (
-  message.head,
-  record { skipped = asked.is.skipped; front = asked.is.front; holds = asked.is.holds },
-  (aim, asked.aimed),
-))
-
 -- there was no memory to decide on a reply
 abbrev undecided_round : Incoming → List Facts → ℕ → Told → Told → Round
 undecided_round incoming shown faults was is = record {
@@ -204,25 +193,19 @@ undecided_round incoming shown faults was is = record {
   text = memory_text;
 }
 
-pub undecided : (alone : Bool) (setting : Setting) (incoming : Incoming) (q : SiteRequest) (shown : List Facts)
+pub undecided : (alone : Bool) (setting : Setting) (incoming : Incoming) (shown : List Facts)
     (was is : Told) (then now : Heard) (answers : List ℕ) (links : Links Transcript) (faults : ℕ)
-    → IsEarlier is.crash → IsAsked setting.site incoming.wire q.message (ToSite q.address) → IsInterim setting.site incoming.wire incoming.interim
+    → IsEarlier is.crash → IsInterim setting.site incoming.wire incoming.interim
     → ReadsOn alone false was is → LeadsShown alone None was.contents.shown shown → LeadsShown alone None shown is.contents.shown
     → MakesRound alone setting incoming true memory_text
     (record { heard = then; answers = answers; links = links; dialer_faults = faults; shelf = was })
     (record { heard = now; answers = answers; links = links; dialer_faults = faults; shelf = is })
-undecided alone setting incoming q shown was is then now answers links faults earlier asked known reads shows later = record {
+undecided alone setting incoming shown was is then now answers links faults earlier known reads shows later = record {
   outcome = Undecided;
   traces = (undecided_round incoming shown faults was is).traces;
   made = record {
     lawful = record {
-      decided = (
-        refl,
-        inl (
-          asked_begun setting.site incoming.wire q.message (ToSite q.address) asked,
-          record { times = refl; transcripts = refl; untouched = record { book = refl; shown = later } },
-        ),
-      );
+      decided = (refl, record { book = refl; shown = later }, inl (refl, refl));
       dialer = none_met faults;
       disk = stayed_met was.faults is.faults reads.faults;
       kept = λ lacking. refl;
@@ -281,14 +264,14 @@ refusal_is (Ok answer) refusal asks head closes e h = h ∙ ap (λ (b : Bool). r
 refusal_is (Err memory) refusal asks head closes e h = tt
 
 -- there was no memory to begin with
-pub lacks_visit : (alone : Bool) (setting : Setting) (q : SiteRequest) (shelf : Told) (incoming : Incoming) (then now : Heard)
+pub lacks_visit : (alone : Bool) (setting : Setting) (shelf : Told) (incoming : Incoming) (then now : Heard)
     (answers : List ℕ) (links : Links Transcript) (faults : ℕ) → IsEarlier shelf.crash
-    → IsAsked setting.site incoming.wire q.message (ToSite q.address) → IsInterim setting.site incoming.wire incoming.interim
+    → IsInterim setting.site incoming.wire incoming.interim
     → MakesRound alone setting incoming true memory_text
     (record { heard = then; answers = answers; links = links; dialer_faults = faults; shelf = shelf })
     (record { heard = now; answers = answers; links = links; dialer_faults = faults; shelf = shelf })
-lacks_visit alone setting q shelf incoming then now answers links faults earlier asked known =
-    undecided alone setting incoming q shelf.contents.shown shelf shelf then now answers links faults earlier asked known
+lacks_visit alone setting shelf incoming then now answers links faults earlier known =
+    undecided alone setting incoming shelf.contents.shown shelf shelf then now answers links faults earlier known
     (reads_itself alone shelf) (shown_itself alone shelf.contents.shown) (shown_itself alone shelf.contents.shown)
 
 -- ---- a capture was brought, or wasn't
@@ -347,7 +330,7 @@ told_damaged a b kept found e h = subst (λ (t : Bool). IsDamaged t kept found) 
 pub bring_lacking : (alone : Bool) (setting : Setting) (q : SiteRequest) (closes : Bool) (memory : Memory) (was is : Told) → IsEarlier is.crash
     → ReadsOn alone false was is → AnswersVisit alone setting q closes (Err memory) was is
 bring_lacking alone setting q closes memory was is earlier h incoming then now answers links faults closing asked known =
-    undecided alone setting incoming q is.contents.shown was is then now answers links faults earlier asked known
+    undecided alone setting incoming is.contents.shown was is then now answers links faults earlier known
     h h.stays.shown (shown_itself alone is.contents.shown)
 
 lacking_bring : (alone : Bool) (setting : Setting) (q : SiteRequest) (closes : Bool) (result : Result Given Memory) (was is : Told) → IsEarlier is.crash
@@ -437,7 +420,7 @@ refusal_answers alone setting q refusal asks closes result shelf earlier asks_is
 pub lacking_answers : (alone : Bool) (setting : Setting) (q : SiteRequest) (closes : Bool) (memory : Memory) (shelf : Told) → IsEarlier shelf.crash
     → AnswersVisit alone setting q closes (Err memory) shelf shelf
 lacking_answers alone setting q closes memory shelf earlier incoming then now answers links faults closing asked known =
-    lacks_visit alone setting q shelf incoming then now answers links faults earlier asked known
+    lacks_visit alone setting shelf incoming then now answers links faults earlier known
 
 pub unserved_by : (b served : Bool) → b ≡ served → b ≡ false → served ≡ false
 unserved_by b served e n = sym e ∙ n

@@ -88,16 +88,6 @@ pub record IsPassedOn (terms : Terms) (e : Exchange) (received : Received) (payl
   pub shown : LeadsShown terms.alone (Some receipt.number) traces.before.shown traces.after.shown
   pub consistent : IsTrue terms.alone → IsTrue terms.tells → AreEntries traces.after.book traces.after.shown
 
--- ---- want of memory
-
--- Memory ran out before a reply was decided: nothing was stored. Nobody was asked, or the clock alone, or the clock and an origin,
--- which got the whole request.
-pub record RanOut (terms : Terms) (e : Exchange) (traces : Traces) : Type 0 where
-  pub begun : ((traces.times ≡ []) × (traces.transcripts ≡ []))
-      ⊎ (((now : ℕ) × (traces.times ≡ now ∷ [])) × (traces.transcripts ≡ []))
-      ⊎ Fetched e (Err fetch_fault.Memory) traces
-  pub untouched : StaysView terms traces.before traces.after
-
 -- ---- the reply
 
 -- The reply follows from what the exchange left. A refusal has its cause in the clock, whose answer has no text, so that nobody was

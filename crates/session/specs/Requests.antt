@@ -126,10 +126,3 @@ IsRefused site wire (Some head) refusal =
     × (((fault : AimFault) × (aim_of site head.method head.target ≡ Err fault) × IsAimRefusal fault refusal)
     ⊎ ((fault : MessageFault) × IsAimed site head × (RefusesAtHead Requests wire fault ⊎ RefusesBehindHead Requests wire fault)
     × (refusal ≡ refusal_of fault)))
-
--- the bytes aren't decided, or begin with a head that asks to go somewhere, behind which nothing is looked at, or are refused for themselves
-abbrev pub IsBegun : Site → List ℕ → Type 0
-IsBegun site wire =
-    IsUndecided site wire
-    ⊎ ((head : RequestHead) × BeginsWithRequest wire head × IsAimed site head)
-    ⊎ ((head : Option RequestHead) × (refusal : Refusal) × IsRefused site wire head refusal)

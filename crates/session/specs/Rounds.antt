@@ -1,5 +1,5 @@
 -- One connection, as rounds of a request and its answer.
-use Rattle.std.specs.Prelude.{◌≡◌, ◌⊎◌, ℕ, ◌+◌, Bool, true, false, ◌||◌, List, [], ◌∷◌, ◌++◌, length, Option, IsTrue, MatchBool}
+use Rattle.std.specs.Prelude.{◌≡◌, ◌⊎◌, ℕ, ◌+◌, Bool, true, false, ◌||◌, List, [], ◌∷◌, ◌++◌, length, Option, IsTrue, MatchBool, Err}
 use Rattle.std.specs.List.{flat_map}
 use Rattle.archive_shelf.specs.Contents.{Shows}
 use Rattle.capture.specs.Captures.{captures}
@@ -10,12 +10,13 @@ use Rattle.exchange.specs.declared.aim.Aim.TheVariants.{Origin}
 use Rattle.exchange.specs.declared.aim.Aim.TheVariants.{Site as ToSite}
 use Rattle.exchange.specs.Refusals.{refusal_text, memory_text}
 use Rattle.exchange.specs.Texts.{answered}
+use Rattle.exchange.specs.declared.fetching.FetchFault.TheVariants as fetch_fault
 use Rattle.http_head.specs.declared.head.RequestHead.{RequestHead}
 use Rattle.replay_url.specs.Questions.{ForNearest}
-use Rattle.session.specs.Exchanges.{Exchange, Reply, Fails, Passes, RanOut, IsReply}
-use Rattle.session.specs.Requests.{IsAsked, IsRefused, IsBegun, IsInterim, answers_head, closes_after}
+use Rattle.session.specs.Exchanges.{Exchange, Reply, Fails, Passes, Fetched, IsReply}
+use Rattle.session.specs.Requests.{IsAsked, IsRefused, IsInterim, answers_head, closes_after}
 use Rattle.session.specs.SiteAnswers.{SiteRequest, SiteReply, Refuses, Redirects, Replays, Lists, Finds, IsSiteReply, IsSiteText}
-use Rattle.session.specs.Traces.{Terms, View, Traces, IsIdle, LeadsView, CountsMet}
+use Rattle.session.specs.Traces.{Terms, View, Traces, IsIdle, LeadsView, CountsMet, StaysView}
 
 -- What was decided of a client's bytes: nothing; they were refused for themselves, with a head or without one; they are a request
 -- that goes to an origin, or to the archive's own site.
@@ -61,12 +62,14 @@ disk_fault other = 0
 
 -- ---- a lawful round
 
--- What the bytes are, and what followed. Where nothing was decided memory ran out: nobody was asked, or an origin perhaps.
+-- What the bytes are, and what followed. Where nothing was decided memory ran out, and nothing was stored: nobody was asked, whatever the bytes are; or they
+-- are a request to an origin, and the clock alone was asked, or the clock and that origin, which got the whole request.
 abbrev pub IsDecided : Terms → Round → Outcome → Type 0
 IsDecided terms r Undecided =
-    IsTrue r.lacked
-    × ((IsBegun terms.site r.wire × IsIdle terms r.traces)
-    ⊎ ((e : Exchange) × IsAsked terms.site r.wire e.message (Origin e.target) × RanOut terms e r.traces))
+    IsTrue r.lacked × StaysView terms r.traces.before r.traces.after
+    × (((r.traces.times ≡ []) × (r.traces.transcripts ≡ []))
+    ⊎ ((e : Exchange) × IsAsked terms.site r.wire e.message (Origin e.target)
+    × (((now : ℕ) × (r.traces.times ≡ now ∷ []) × (r.traces.transcripts ≡ [])) ⊎ Fetched e (Err fetch_fault.Memory) r.traces)))
 IsDecided terms r (Refused head refusal) = IsRefused terms.site r.wire head refusal × IsIdle terms r.traces
 IsDecided terms r (Exchanged e reply) =
     IsAsked terms.site r.wire e.message (Origin e.target) × IsReply terms e reply r.traces

@@ -20,11 +20,11 @@ use Rattle.outside.specs.declared.dialer.Transcript.{Transcript}
 use Rattle.session.specs.steps.Answering.{Answers, Incoming}
 use Rattle.session.specs.Connection.{Setting}
 use Rattle.session.specs.steps.Declining.{Declines, refusal_by_store}
-use Rattle.session.specs.Exchanges.{Exchange, Reply, Fails, Passes, RanOut, IsReply}
+use Rattle.session.specs.Exchanges.{Exchange, Reply, Fails, Passes}
 use Rattle.session.specs.Gains.{World}
 use Rattle.session.specs.Images.{KeepsImages}
 use Rattle.session.specs.Requests.{IsAsked, IsInterim, closes_after}
-use Rattle.session.specs.Rounds.{Round, Exchanged, disk_fault, numbers_by, origin_fault, Outcome, Undecided}
+use Rattle.session.specs.Rounds.{Round, Exchanged, IsDecided, disk_fault, numbers_by, origin_fault, Outcome, Undecided}
 use Rattle.session.specs.Traces.{Terms, Traces, View, CountsMet, terms_of, view_of}
 use Rattle.session.specs.steps.Givens.{Given, with_body}
 use Rattle.session.specs.declared.exchanging.Proxied.{Proxied}
@@ -113,11 +113,6 @@ abbrev pub outcome_of : Exchange → Option Reply → Outcome
 outcome_of e None = Undecided
 outcome_of e (Some reply) = Exchanged e reply
 
--- the reply follows from what the exchange left; without one, memory ran out
-abbrev pub IsLeft : Terms → Exchange → Bool → Option Reply → Traces → Type 0
-IsLeft terms e lacked None traces = IsTrue lacked × RanOut terms e traces
-IsLeft terms e lacked (Some reply) traces = IsReply terms e reply traces
-
 module _ (alone : Bool) (site : Site) (e : Exchange) where
   -- what holds while the request is answered
   abbrev pub terms_in : Told → Terms
@@ -152,11 +147,17 @@ module _ (alone : Bool) (site : Site) (e : Exchange) where
     text = text;
   }
 
+  -- what was decided of the request follows from what the exchange left, whatever bytes it came in
+  abbrev pub IsLeft : Told → Bool → Option Reply → Traces → Type 0
+  IsLeft was lacked reply traces =
+      (incoming : Incoming) (text : List ℕ) → IsAsked site incoming.wire e.message (Origin e.target)
+      → IsDecided (terms_in was) (round_of incoming reply lacked traces text) (outcome_of e reply)
+
   -- how the request is answered follows from what clock, dialer and shelf left
   pub record Replies (lacked : Bool) (reply : Option Reply) (around : Around) (was is : Told) : Type 0 where
     pub found : Book
     pub led : Leads alone was.contents.seen found
-    pub by : IsLeft (terms_in was) e lacked reply (traces_of around found was is)
+    pub by : IsLeft was lacked reply (traces_of around found was is)
     pub kept : IsTrue lacked → numbers_by (outcome_of e reply) (view_before around found was) ≡ []
     pub dialer : CountsMet (origin_fault (outcome_of e reply)) around.faults_before around.faults_now
     pub disk : CountsMet (disk_fault (outcome_of e reply)) was.faults is.faults

@@ -16,7 +16,7 @@ use Rattle.http_head.specs.declared.head.RequestMessage.{RequestMessage}
 use Rattle.http_wire.specs.Heads.{BeginsWithRequest}
 use Rattle.http_wire.specs.Messages.{IsRequest}
 use Rattle.outside.specs.declared.gate.Heard.{Heard}
-use Rattle.session.specs.Requests.{IsAimed, IsAsked, IsBegun, IsInside, IsInterim, IsRefused, IsUndecided, answers_head, interim_of, IsAimRefusal}
+use Rattle.session.specs.Requests.{IsAimed, IsAsked, IsInside, IsInterim, IsRefused, IsUndecided, answers_head, interim_of, IsAimRefusal}
 use Rattle.session.specs.steps.Wire.{Breaks, EndsRefusal, Says, Tries, Writes}
 use Rattle.session.specs.declared.reading.Asked.{Asked}
 use Rattle.session.specs.declared.served.Served.{Served}
@@ -95,7 +95,6 @@ pub record RefusesBytes (site : Site) (from : Client) (now : Heard) (end : Serve
 pub record GivesUp (site : Site) (from : Client) (now : Heard) (end : Served) : Type 0 where
   pub wire : List ℕ
   pub interim : List ℕ
-  pub begun : IsBegun site wire
   pub interim_is : IsInterim site wire interim ⊎ (interim ≡ [])
   pub to : Client
   pub taken : HasTaken from wire interim to
