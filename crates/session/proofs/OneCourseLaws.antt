@@ -1,5 +1,5 @@
 -- A course leaves no choice.
-use Rattle.std.proofs.Common.{◌≡◌, ◌⊎◌, inl, inr, ℕ, zero, suc, ◌+◌, ◌-◌, ◌^◌, ◌<◌, Bool, true, false, ◌||◌, IsTrue, List, [], ◌∷◌, ◌++◌, Option, Result, Ok, refl, sym, ◌∙◌, ap, subst, arith, append_assoc}
+use Rattle.std.proofs.Common.{◌≡◌, ◌⊎◌, inl, inr, ℕ, zero, suc, ◌+◌, ◌-◌, ◌^◌, ◌<◌, Bool, true, false, ◌||◌, IsTrue, List, [], ◌∷◌, ◌++◌, Option, Some, None, Result, Ok, refl, sym, ◌∙◌, ap, subst, arith, append_assoc}
 use Rattle.archive_shelf.proofs.CallLaws.{leads_same, shown_same}
 use Rattle.capture.specs.Faults.{RoseBy}
 use Rattle.capture.specs.Head.{front_of}
@@ -10,7 +10,7 @@ use Rattle.capture.specs.declared.refusal.Refusal.TheVariants.{DialFault}
 use Rattle.capture.specs.declared.site.Site.{Site}
 use Rattle.cdxj_index.specs.OfBook.{AreEntries}
 use Rattle.exchange.specs.Aim.{aim_of}
-use Rattle.exchange.specs.Refusals.{memory_text, refusal_text}
+use Rattle.exchange.specs.Refusals.{memory_text}
 use Rattle.exchange.specs.declared.aim.Aim.{Aim}
 use Rattle.exchange.specs.declared.aim.Aim.TheVariants.{Origin}
 use Rattle.exchange.specs.declared.aim.Aim.TheVariants.{Site as ToSite}
@@ -26,7 +26,6 @@ use Rattle.session.specs.Exchanges.{Exchange, Reply, Fails, IsReply}
 use Rattle.session.specs.Gains.{gains_of}
 use Rattle.session.specs.OneCourse.{AreOneCourse, AreSameRounds, CoursesEndOneWay, CoursesLeaveNoChoice, IsSameRound, RoundWentWell, RoundsLeaveNoChoice, WentWell}
 use Rattle.session.specs.Requests.{IsAsked, IsInside, IsInterim, IsUndecided, closes_after, interim_of}
-use Rattle.session.specs.Requests as requests
 use Rattle.session.specs.Rounds.{Round, Outcome, Undecided, Refused, Exchanged, Visited, IsCourse, IsDecided, IsRound, IsTextOf, closes_outcome, course_text, course_wire, disk_fault, disk_faults, is_closed, lacks, origin_fault, origin_faults, refusal_in, refusals}
 use Rattle.session.specs.SiteAnswers.{SiteRequest, SiteReply, IsSiteReply}
 use Rattle.session.specs.Stopping.{Course, Ends, IsClosed, IsLeftOver}
@@ -66,6 +65,11 @@ lacked_isnt b t f = let bad : ⊥ = cc in absurd bad
 
 text_of : (terms : Terms) (served : ℕ) (r : Round) → RoundWentWell terms served r → IsTextOf terms served r.outcome r.text
 text_of terms served r h = text_by r.lacked (r.text ≡ memory_text) (IsTextOf terms served r.outcome r.text) h.memory h.lawful.text_is
+
+one_refusal_text : (terms : Terms) (served : ℕ) (head : Option RequestHead) (refusal : Refusal) (a b : List ℕ)
+    → IsTextOf terms served (Refused head refusal) a → IsTextOf terms served (Refused head refusal) b → a ≡ b
+one_refusal_text terms served None refusal a b h k = h ∙ sym k
+one_refusal_text terms served (Some head) refusal a b h k = h ∙ sym k
 
 interim_of_round : (terms : Terms) (served : ℕ) (r : Round) → RoundWentWell terms served r → IsInterim terms.site r.wire r.interim
 interim_of_round terms served r h = elim h.lawful.interim_is [
@@ -167,8 +171,7 @@ module _ (laws : Choosing) (terms : Terms) (served : ℕ) (tells : IsTrue terms.
         same = record {
           outcome = is ∙ outcomes ∙ sym also;
           interim = own ∙ ap (told_interim terms.site) same.head_is ∙ sym its;
-          text = text ∙ ap (λ (x : Refusal). refusal_text x (requests.answers_head head) true) same.refusal_is
-              ∙ ap (λ (x : Option RequestHead). refusal_text b (requests.answers_head x) true) same.head_is ∙ sym too;
+          text = one_refusal_text terms served other b (subst (λ (o : Outcome). IsTextOf terms served o r.text) outcomes text) too;
           book = idle_book h.1 k.1;
         };
         shown = λ alone. idle_shown alone h.1 k.1;

@@ -1,5 +1,5 @@
 -- Rounds that ask nothing of clock, origin and archive.
-use Rattle.std.proofs.Common.{◌≡◌, ◌⊎◌, inl, inr, ℕ, true, false, List, [], ◌∷◌, ◌++◌, Option, refl, sym, ◌∙◌, ap, subst, arith, Bool}
+use Rattle.std.proofs.Common.{◌≡◌, ◌⊎◌, inl, inr, ℕ, true, false, List, [], ◌∷◌, ◌++◌, Option, Some, None, refl, sym, ◌∙◌, ap, subst, arith, Bool}
 use Rattle.archive_shelf.proofs.CallLaws.{shown_itself}
 use Rattle.archive_shelf.specs.Laws.{BooksLeadToThemselves}
 use Rattle.archive_shelf.specs.Told.{Told}
@@ -15,10 +15,10 @@ use Rattle.http_head.specs.declared.head.RequestHead.{RequestHead}
 use Rattle.exchange.specs.Refusals.{refusal_text, memory_text}
 use Rattle.outside.specs.Calls.{one_more}
 use Rattle.outside.specs.declared.gate.Heard.{Heard}
-use Rattle.session.specs.steps.Reads.{Client, HasTaken}
+use Rattle.session.specs.steps.Reads.{Client, HasTaken, answers_head}
 use Rattle.session.specs.steps.Wire.{EndsRefusal, Tries}
-use Rattle.session.specs.Requests.{IsInterim, IsRefused, answers_head}
-use Rattle.session.specs.Rounds.{Round, Undecided, Refused, IsRound, is_from_shown}
+use Rattle.session.specs.Requests.{IsInterim, IsRefused}
+use Rattle.session.specs.Rounds.{Round, Undecided, Refused, IsRound, IsTextOf, is_from_shown}
 use Rattle.session.specs.Traces.{Terms, View, Traces}
 use Rattle.session.specs.declared.served.Served.{Served}
 use Rattle.session.specs.declared.served.Served.TheVariants.{Done, ClientBroke, ClientEndedEarly, ClientRefused, WantOfMemory}
@@ -141,6 +141,11 @@ refusal_round head refusal wire interim view = record {
   text = refusal_text refusal (answers_head head) true;
 }
 
+refusal_text_is : (terms : Terms) (served : ℕ) (head : Option RequestHead) (refusal : Refusal)
+    → IsTextOf terms served (Refused head refusal) (refusal_text refusal (answers_head head) true)
+refusal_text_is terms served None refusal = refl
+refusal_text_is terms served (Some head) refusal = refl
+
 refusal_lawful : (terms : Terms) (served : ℕ) (head : Option RequestHead) (refusal : Refusal) (wire interim : List ℕ) (view : View)
     → IsRefused terms.site wire head refusal → IsInterim terms.site wire interim → IsRound terms served (refusal_round head refusal wire interim view)
 refusal_lawful terms served head refusal wire interim view is known = record {
@@ -149,7 +154,7 @@ refusal_lawful terms served head refusal wire interim view is known = record {
   dialer = none_met view.dialer_faults;
   disk = none_met view.disk_faults;
   interim_is = inl known;
-  text_is = refl;
+  text_is = refusal_text_is terms served head refusal;
 }
 
 -- the bytes are refused, by how the connection then ends

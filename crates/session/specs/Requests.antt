@@ -7,7 +7,6 @@ use Rattle.capture.specs.Fields.{NamedValue, is_named, lowered}
 use Rattle.capture.specs.First.{Requests, NothingBegun, HeadNeeded, BodyNeeded, IsFirst, HasNoHead, RefusesAtHead, RefusesBehindHead}
 use Rattle.capture.specs.Head.{front_of}
 use Rattle.capture.specs.Head as head_front
-use Rattle.capture.specs.Methods.{asks_for_head}
 use Rattle.capture.specs.declared.framing.Framing.{Framing}
 use Rattle.capture.specs.declared.framing.Framing.TheVariants.{Empty, Length, Chunked, ToEnd}
 use Rattle.capture.specs.declared.framing.FramingFault.{FramingFault}
@@ -71,11 +70,6 @@ closes_after served head =
     not (is_persistent head.version)
     || list_any (λ (field : NamedValue). is_named connection field && list_any (λ member. bytes_eq (lowered member) (codes "close")) (members field.1)) (map named_value head.fields)
     || (served + 1 == REQUEST_LIMIT)
-
--- whether a request asks for a head alone; without a head it doesn't
-abbrev pub answers_head : Option RequestHead → Bool
-answers_head (Some head) = asks_for_head head.method
-answers_head None = false
 
 -- ---- streams
 

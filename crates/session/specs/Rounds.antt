@@ -1,5 +1,5 @@
 -- One connection, as rounds of a request and its answer.
-use Rattle.std.specs.Prelude.{◌≡◌, ◌⊎◌, ℕ, ◌+◌, Bool, true, false, ◌||◌, List, [], ◌∷◌, ◌++◌, length, Option, IsTrue, MatchBool, Err}
+use Rattle.std.specs.Prelude.{◌≡◌, ◌⊎◌, ℕ, ◌+◌, Bool, true, false, ◌||◌, List, [], ◌∷◌, ◌++◌, length, Option, Some, None, IsTrue, MatchBool, Err}
 use Rattle.std.specs.List.{flat_map}
 use Rattle.archive_shelf.specs.Contents.{Shows}
 use Rattle.capture.specs.Captures.{captures}
@@ -14,7 +14,7 @@ use Rattle.exchange.specs.declared.fetching.FetchFault.TheVariants as fetch_faul
 use Rattle.http_head.specs.declared.head.RequestHead.{RequestHead}
 use Rattle.replay_url.specs.Questions.{ForNearest}
 use Rattle.session.specs.Exchanges.{Exchange, Reply, Fails, Passes, Fetched, IsReply}
-use Rattle.session.specs.Requests.{IsAsked, IsRefused, IsInterim, answers_head, closes_after}
+use Rattle.session.specs.Requests.{IsAsked, IsRefused, IsInterim, closes_after}
 use Rattle.session.specs.SiteAnswers.{SiteRequest, SiteReply, Refuses, Redirects, Replays, Lists, Finds, IsSiteReply, IsSiteText}
 use Rattle.session.specs.Traces.{Terms, View, Traces, IsIdle, LeadsView, CountsMet, StaysView}
 
@@ -79,7 +79,8 @@ IsDecided terms r (Visited q reply) =
 -- the text of an answer, where memory sufficed
 abbrev pub IsTextOf : Terms → ℕ → Outcome → List ℕ → Type 0
 IsTextOf terms served Undecided text = text ≡ memory_text
-IsTextOf terms served (Refused head refusal) text = text ≡ refusal_text refusal (answers_head head) true
+IsTextOf terms served (Refused None refusal) text = text ≡ refusal_text refusal false true
+IsTextOf terms served (Refused (Some head) refusal) text = text ≡ refusal_text refusal (asks_for_head head.method) true
 IsTextOf terms served (Exchanged e (Fails refusal)) text =
     text ≡ refusal_text refusal (asks_for_head e.message.head.method) (closes_after served e.message.head)
 IsTextOf terms served (Exchanged e (Passes received payload)) text =

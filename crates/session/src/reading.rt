@@ -15,6 +15,7 @@ ghost use Rattle.http_wire.specs.Reading.{Failed as HasFailed, Whole as IsWhole,
 ghost use Rattle.http_wire.specs.RequestReading.{new_request};
 ghost use Rattle.outside.specs.Gate.{heard_of};
 ghost use Rattle.session.specs.steps.Reads.{AwaitsRest, Client, ComesFaulty, HasTaken, IsBehind, IsWellAsked, LooksAt, Owes, Reads, ReadsBody, ReadsNone, RefusesAim};
+ghost use Rattle.session.specs.steps.Reads as steps;
 ghost use Rattle.session.specs.Requests as spec;
 ghost use Rattle.session.specs.steps.Wire.{Breaks, EndsRefusal, Tries, Writes};
 
@@ -258,7 +259,7 @@ fn turn_away<L: Link>(
 
 /// Whether the head that a reader holds, if it does, asks for a head alone.
 fn is_for_head(reader: &RequestReader) -> bool
-    ensures value { result ≡ spec.answers_head reader.now.head }
+    ensures value { result ≡ steps.answers_head reader.now.head }
     ensures holds { HoldsHead reader.now.stream reader.now.standing reader.now.head }
 {
     match reader.head() {

@@ -1,5 +1,5 @@
 -- What reading a request leaves of a client's link.
-use Rattle.std.specs.Prelude.{◌≡◌, ◌≢◌, ◌⊎◌, ℕ, Bool, true, List, [], ◌++◌, Option, Some, None, Result, Ok, Err}
+use Rattle.std.specs.Prelude.{◌≡◌, ◌≢◌, ◌⊎◌, ℕ, Bool, true, false, List, [], ◌++◌, Option, Some, None, Result, Ok, Err}
 use Rattle.capture.specs.Methods.{asks_for_head}
 use Rattle.capture.specs.declared.refusal.Refusal.{Refusal}
 use Rattle.capture.specs.declared.refusal.Refusal.TheVariants.{ConnectRefused, SecureRefused, TargetRefused}
@@ -16,7 +16,7 @@ use Rattle.http_head.specs.declared.head.RequestMessage.{RequestMessage}
 use Rattle.http_wire.specs.Heads.{BeginsWithRequest}
 use Rattle.http_wire.specs.Messages.{IsRequest}
 use Rattle.outside.specs.declared.gate.Heard.{Heard}
-use Rattle.session.specs.Requests.{IsAimed, IsAsked, IsInside, IsInterim, IsRefused, IsUndecided, answers_head, interim_of, IsAimRefusal}
+use Rattle.session.specs.Requests.{IsAimed, IsAsked, IsInside, IsInterim, IsRefused, IsUndecided, interim_of, IsAimRefusal}
 use Rattle.session.specs.steps.Wire.{Breaks, EndsRefusal, Says, Tries, Writes}
 use Rattle.session.specs.declared.reading.Asked.{Asked}
 use Rattle.session.specs.declared.served.Served.{Served}
@@ -78,6 +78,11 @@ pub record BreaksInside (site : Site) (from : Client) (now : Heard) (end : Serve
   pub taken : HasTaken from begun [] to
   pub broke : Breaks (interim_of site head) to.heard now
   pub ends : end ≡ ClientBroke
+
+-- whether a request asks for a head alone; without a head it doesn't
+abbrev pub answers_head : Option RequestHead → Bool
+answers_head (Some head) = asks_for_head head.method
+answers_head None = false
 
 -- what came is refused
 pub record RefusesBytes (site : Site) (from : Client) (now : Heard) (end : Served) : Type 0 where
