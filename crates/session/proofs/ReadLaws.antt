@@ -31,8 +31,8 @@ use Rattle.http_wire.specs.Messages.{IsRequest}
 use Rattle.http_wire.specs.Reading.{Standing, Open, Failed, EndsInside}
 use Rattle.http_wire.specs.Reading.{IsUndecided as WireUndecided, LacksHead as WireLacksHead}
 use Rattle.outside.specs.declared.gate.Heard.{Heard}
-use Rattle.session.specs.steps.Reads.{Client, HasTaken, HasRead, AwaitsRest, ReadsNone, NoMore, Breaking, Refusing, GivingUp, Owes, ComesFaulty, IsBehind, IsWellAsked, LooksAt, ReadsBody, RefusesAim, IsAimedNowhere, answers_head}
-use Rattle.session.specs.Requests.{IsAimed, IsInside, IsInterim, IsRefused, IsUndecided, continue_text, interim_of, refusal_of}
+use Rattle.session.specs.steps.Reads.{Client, HasTaken, HasRead, AwaitsRest, ReadsNone, NoMore, Breaking, Refusing, GivingUp, Owes, ComesFaulty, IsBehind, IsWellAsked, LooksAt, ReadsBody, RefusesAim, IsAimed, IsAimedNowhere, answers_head}
+use Rattle.session.specs.Requests.{IsInside, IsInterim, IsRefused, IsUndecided, continue_text, interim_of, refusal_of}
 use Rattle.session.specs.steps.Wire.{EndsRefusal, Says, Tries, Writes}
 use Rattle.session.specs.declared.reading.Asked.{Asked}
 use Rattle.session.specs.declared.served.Served.{Served}

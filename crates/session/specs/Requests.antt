@@ -33,10 +33,6 @@ use Rattle.session.specs.declared.TheConstants.{REQUEST_LIMIT}
 
 -- ---- heads
 
--- a head asks to go somewhere
-abbrev pub IsAimed : Site → RequestHead → Type 0
-IsAimed site head = (aim : Aim) × (aim_of site head.method head.target ≡ Ok aim)
-
 -- it tells of a body, within the limit
 abbrev pub tells_body : Result Framing FramingFault → Bool
 tells_body (Ok Empty) = false
@@ -83,7 +79,8 @@ IsInterim site stream text =
 abbrev pub IsInside : Site → List ℕ → Type 0
 IsInside site stream =
     IsFirst Requests true stream HeadNeeded
-    ⊎ ((head : RequestHead) × BeginsWithRequest stream head × IsAimed site head × IsFirst Requests false stream BodyNeeded)
+    ⊎ ((head : RequestHead) × BeginsWithRequest stream head × ((aim : Aim) × (aim_of site head.method head.target ≡ Ok aim))
+    × IsFirst Requests false stream BodyNeeded)
 
 -- no request as yet, and no refusal: nothing has begun but line ends that are skipped, or more is needed
 abbrev pub IsUndecided : Site → List ℕ → Type 0
@@ -118,5 +115,5 @@ IsRefused site wire None refusal =
 IsRefused site wire (Some head) refusal =
     BeginsWithRequest wire head
     × (((fault : AimFault) × (aim_of site head.method head.target ≡ Err fault) × IsAimRefusal fault refusal)
-    ⊎ ((fault : MessageFault) × IsAimed site head × (RefusesAtHead Requests wire fault ⊎ RefusesBehindHead Requests wire fault)
-    × (refusal ≡ refusal_of fault)))
+    ⊎ ((fault : MessageFault) × ((aim : Aim) × (aim_of site head.method head.target ≡ Ok aim))
+    × (RefusesAtHead Requests wire fault ⊎ RefusesBehindHead Requests wire fault) × (refusal ≡ refusal_of fault)))

@@ -16,7 +16,7 @@ use Rattle.http_head.specs.declared.head.RequestMessage.{RequestMessage}
 use Rattle.http_wire.specs.Heads.{BeginsWithRequest}
 use Rattle.http_wire.specs.Messages.{IsRequest}
 use Rattle.outside.specs.declared.gate.Heard.{Heard}
-use Rattle.session.specs.Requests.{IsAimed, IsAsked, IsInside, IsInterim, IsRefused, IsUndecided, interim_of, IsAimRefusal}
+use Rattle.session.specs.Requests.{IsAsked, IsInside, IsInterim, IsRefused, IsUndecided, interim_of, IsAimRefusal}
 use Rattle.session.specs.steps.Wire.{Breaks, EndsRefusal, Says, Tries, Writes}
 use Rattle.session.specs.declared.reading.Asked.{Asked}
 use Rattle.session.specs.declared.served.Served.{Served}
@@ -114,6 +114,10 @@ pub data ReadsNone (site : Site) (from : Client) (now : Heard) (end : Served) : 
   GivingUp : (gave_up : GivesUp site from now end) → ReadsNone site from now end
 
 -- ---- one message that is refused
+
+-- a head asks to go somewhere
+abbrev pub IsAimed : Site → RequestHead → Type 0
+IsAimed site head = (aim : Aim) × (aim_of site head.method head.target ≡ Ok aim)
 
 -- what is written before the body of a message is read: nothing without a head; with one, which goes somewhere, what it asks for
 abbrev pub Owes : Site → Option RequestHead → List ℕ → Type 0
