@@ -54,10 +54,10 @@ all_of : (result : Served) (site : Site) (c : Course) (then now : Heard) → End
     → (is_closed c.served c.rounds ≡ true) ⊎ IsUndecided site c.rest
 all_of served.Done site c then now h ok whole = elim h.3 [
   | inl closed ↦ inl closed.closed
-  | inr (met, between, left) ↦ inr left.undecided
+  | inr (met, between, left) ↦ inr (inl between)
 ]
 all_of served.ClientBroke site c then now h ok whole = absurd (h.0 ok)
-all_of served.ClientEndedEarly site c then now h ok whole = inr h.4.undecided
+all_of served.ClientEndedEarly site c then now h ok whole = inr (inr h.3)
 all_of (served.ClientRefused refusal) site c then now h ok whole = inl h.3.closed
 all_of served.WantOfMemory site c then now h ok whole = true_isnt_false c h.0 whole
 

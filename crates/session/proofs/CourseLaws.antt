@@ -100,7 +100,6 @@ module _ (served : ℕ) (r : Round) (rounds : List Round) (rest : List ℕ) (the
   left_behind : (site : Site) → closes served r ≡ false → IsLeftOver site others mid now → IsLeftOver site all_of then now
   left_behind site goes all = record {
     not_closed = same_or (closes served r) (is_closed (served + 1) rounds) goes ∙ all.not_closed;
-    undecided = all.undecided;
     interim = all.interim;
     interim_is = all.interim_is;
     written = all.written ∙ behind_text then.written mid.written (r.interim ++ r.text) (course_text rounds ++ all.interim) said.written
@@ -127,8 +126,8 @@ module _ (served : ℕ) (r : Round) (rounds : List Round) (rest : List ℕ) (the
       (broke, same_or r.lacked (lacks rounds) has ∙ enough, inl (short_behind cut))
   ends_behind ClientBroke site goes has none (broke, enough, inr (inl cut)) =
       (broke, same_or r.lacked (lacks rounds) has ∙ enough, inr (inl (inside_behind site goes cut)))
-  ends_behind ClientBroke site goes has none (broke, enough, inr (inr left)) =
-      (broke, same_or r.lacked (lacks rounds) has ∙ enough, inr (inr (left_behind site goes left)))
+  ends_behind ClientBroke site goes has none (broke, enough, inr (inr (undecided, left))) =
+      (broke, same_or r.lacked (lacks rounds) has ∙ enough, inr (inr (undecided, left_behind site goes left)))
   ends_behind ClientEndedEarly site goes has none (whole, enough, met, inside, left) =
       (whole, same_or r.lacked (lacks rounds) has ∙ enough, met, inside, left_behind site goes left)
   ends_behind (ClientRefused refusal) site goes has none (whole, enough, refused, all) = (

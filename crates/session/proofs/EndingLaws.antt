@@ -12,7 +12,7 @@ use Rattle.session.specs.steps.Endings.{LastIsWhole, LastIsInPart, client_at, he
 use Rattle.session.specs.Gains.{World, gains_of}
 use Rattle.session.specs.steps.Gaining.{no_gains, gains_by}
 use Rattle.session.specs.steps.Reads.{BreaksInside, MeetsEnd, MeetsNoMore}
-use Rattle.session.specs.Requests.{interim_of}
+use Rattle.session.specs.Requests.{IsUndecided, interim_of}
 use Rattle.session.specs.Rounds.{Round}
 use Rattle.session.specs.Stopping.{Ends, IsLeftOver}
 use Rattle.session.specs.Traces.{Terms, View, LeadsView}
@@ -69,14 +69,14 @@ last_part alone setting r rest from is result itself h = record {
 }
 
 -- how a connection ends where no more comes
-meets_end : (end : Served) (site : Site) (served : ℕ) (rest : List ℕ) (then now : Heard) → MeetsEnd end site rest now
+meets_end : (end : Served) (site : Site) (served : ℕ) (rest : List ℕ) (then now : Heard) → MeetsEnd end site rest now → IsUndecided site rest
     → IsLeftOver site (record { served = served; rounds = []; rest = rest }) then now
     → Ends end site (record { served = served; rounds = []; rest = rest }) then now
-meets_end Done site served rest then now (met, between, whole) left = (whole, refl, refl, inr (met, between, left))
-meets_end ClientBroke site served rest then now broke left = (broke, refl, inr (inr left))
-meets_end ClientEndedEarly site served rest then now (met, inside, whole) left = (whole, refl, met, inside, left)
-meets_end (ClientRefused refusal) site served rest then now h left = absurd h
-meets_end WantOfMemory site served rest then now h left = absurd h
+meets_end Done site served rest then now (met, between, whole) undecided left = (whole, refl, refl, inr (met, between, left))
+meets_end ClientBroke site served rest then now broke undecided left = (broke, refl, inr (inr (undecided, left)))
+meets_end ClientEndedEarly site served rest then now (met, inside, whole) undecided left = (whole, refl, met, inside, left)
+meets_end (ClientRefused refusal) site served rest then now h undecided left = absurd h
+meets_end WantOfMemory site served rest then now h undecided left = absurd h
 
 -- no round, and no more comes
 pub no_round : (alone : Bool) (setting : Setting) (from : Stage) (now : Heard) (end : Served)
@@ -86,9 +86,8 @@ no_round alone setting from now end itself h = record {
   rest = h.rest;
   accounts = λ done e. h.taken.accounts done e ∙ ap (λ x. done ++ x) (append-nil h.rest);
   lawful = view_itself (terms_at alone setting from.world.shelf) (view_at from.world) itself;
-  ends = meets_end end setting.site from.served h.rest from.world.heard now h.meets (record {
+  ends = meets_end end setting.site from.served h.rest from.world.heard now h.meets h.undecided (record {
     not_closed = refl;
-    undecided = h.undecided;
     interim = h.interim;
     interim_is = h.interim_is;
     written = h.taken.said.written;

@@ -7,7 +7,7 @@ use Rattle.outside.specs.Calls.{one_more}
 use Rattle.outside.specs.declared.gate.Heard.{Heard}
 use Rattle.http_head.specs.declared.head.RequestHead.{RequestHead}
 use Rattle.http_wire.specs.Heads.{BeginsWithRequest}
-use Rattle.session.specs.Requests.{IsInside, IsInterim, IsUndecided, interim_of}
+use Rattle.session.specs.Requests.{IsInside, IsInterim, interim_of}
 use Rattle.session.specs.Rounds.{Round, course_text, is_closed, lacks, refusals}
 use Rattle.session.specs.declared.served.Served.{Served}
 use Rattle.session.specs.declared.served.Served.TheVariants.{Done, ClientBroke, ClientEndedEarly, ClientRefused, WantOfMemory}
@@ -43,10 +43,9 @@ pub record IsClosed (c : Course) (then now : Heard) : Type 0 where
   pub unfailed : now.failed_writes ≡ then.failed_writes
   pub closed : is_closed c.served c.rounds ≡ true
 
--- All was answered, and no answer closes; what is left over is no request and isn't refused.
+-- All was answered, and no answer closes; of what is left over at most the text that a head asks for was written.
 pub record IsLeftOver (site : Site) (c : Course) (then now : Heard) : Type 0 where
   pub not_closed : is_closed c.served c.rounds ≡ false
-  pub undecided : IsUndecided site c.rest
   pub interim : List ℕ
   pub interim_is : IsInterim site c.rest interim
   pub written : now.written ≡ then.written ++ (course_text c.rounds ++ interim)
@@ -54,14 +53,15 @@ pub record IsLeftOver (site : Site) (c : Course) (then now : Heard) : Type 0 whe
 
 -- How a connection ended says where it stopped. Its link is whole: an answer closed it, which refused the bytes that came or didn't; or
 -- the client's end was met, where nothing has begun but line ends that are skipped, or inside a message. Its link failed: in a write of an answer or of the text that
--- asks for a body, or in a read. There was no memory: with the answer that says so, whole or in part.
+-- asks for a body, or in a read, at such a place. There was no memory: with the answer that says so, whole or in part.
 abbrev pub Ends : Served → Site → Course → Heard → Heard → Type 0
 Ends Done site c then now =
     (now.faults ≡ 0) × (lacks c.rounds ≡ false) × (refusals c.rounds ≡ [])
     × (IsClosed c then now ⊎ ((now.ended ≡ true) × IsFirst Requests true c.rest NothingBegun × IsLeftOver site c then now))
 Ends ClientBroke site c then now =
     (now.faults ≢ 0) × (lacks c.rounds ≡ false)
-    × (IsCutShort c then now ⊎ IsCutInside site c then now ⊎ IsLeftOver site c then now)
+    × (IsCutShort c then now ⊎ IsCutInside site c then now
+    ⊎ ((IsFirst Requests true c.rest NothingBegun ⊎ IsInside site c.rest) × IsLeftOver site c then now))
 Ends ClientEndedEarly site c then now =
     (now.faults ≡ 0) × (lacks c.rounds ≡ false) × (now.ended ≡ true) × IsInside site c.rest × IsLeftOver site c then now
 Ends (ClientRefused refusal) site c then now =
