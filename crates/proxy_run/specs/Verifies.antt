@@ -68,8 +68,7 @@ IsRight namespace count image c = IsVerdict (due_in namespace count c.facts) (fi
 abbrev pub AreRight : {D : Type 0} → Disks D → (namespace : List ℕ) → (volumes : List VolumeFacts) → D → List Checked → Type 0
 AreRight disks namespace volumes was checked = IsTrue disks.tells → All (IsRight namespace (length volumes) (disks.reading was)) checked
 
-module _ {D O : Type 0} (disks : Disks D) (sinks : Sinks O) (namespace : List ℕ) (volumes : List VolumeFacts) (was is : D) (out_was out_is : O)
-    (status : Status) where
+module _ {D O : Type 0} (disks : Disks D) (sinks : Sinks O) (namespace : List ℕ) (volumes : List VolumeFacts) (was is : D) (out_was out_is : O) (status : Status) where
   -- Each of the volumes was checked, in order, and its line printed.
   pub record ChecksAll : Type 0 where
     pub checked : List Checked
