@@ -265,10 +265,10 @@ module _ (alone : Bool) (site : Site) (e : Exchange) (closes : Bool) (date : ℕ
     disk = stayed_met was.faults is.faults h.faults;
     stored = mine_stored was.contents is.contents receipt.number (length (captures h.leaves.found)) h.leaves.number h.leaves.others;
     images = λ incoming text. images_stored alone site
-        (round_of alone site e incoming (Some (Passes received payload)) false (traces_of alone site e around h.leaves.found was is) text) e received was is
+        (round_of alone site e incoming (Some (Passes received payload)) false (traces_of alone site e around h.leaves.found was is) text) e was is
         (record {
+          room = room_in h.leaves.found was is h.leaves.not_full;
           deed = refl;
-          fetched = fetched_in h.leaves.found was is;
           found = λ is_alone. leads_same alone was.contents.seen h.leaves.found is_alone h.leaves.led;
           after = refl;
           receipt = receipt;

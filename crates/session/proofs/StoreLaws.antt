@@ -11,7 +11,7 @@ use Rattle.capture.specs.declared.site.Site.{Site}
 use Rattle.http_head.specs.declared.head.Received.{Received}
 use Rattle.warc_journal.specs.Extents.{cdxj_files}
 use Rattle.session.specs.Exchanges.{Exchange, HasRoom, taken_of}
-use Rattle.session.specs.Images.{Deed, NoDeed, Stores, IsDenied, deed_of, MayBeLeft, OpensBehind, KeepsImages}
+use Rattle.session.specs.Images.{Deed, NoDeed, Stores, IsDenied, deed_of, OpensBehind, KeepsImages}
 use Rattle.session.specs.Rounds.{Round}
 use Rattle.session.specs.steps.Shelving.{HasKept, WasDenied}
 use Rattle.session.specs.Traces.{Terms, Traces, terms_of}
@@ -52,25 +52,27 @@ ids_stored : (deed : Deed) (e : Exchange) (received : Received) (book : Book) �
 ids_stored deed e received book h ids = ids (λ none. stored_some deed e received h none)
 
 -- a round that stored the capture of its exchange
-pub images_stored : (alone : Bool) (site : Site) (r : Round) (e : Exchange) (received : Received) (was is : Told)
-    → HasKept alone site r e received was is → KeepsImages (terms_of site alone was.contents) (r ∷ []) was is
-images_stored alone site r e received was is h =
+pub images_stored : (alone : Bool) (site : Site) (r : Round) (e : Exchange) (was is : Told)
+    → HasKept alone site r e was is → KeepsImages (terms_of site alone was.contents) (r ∷ []) was is
+images_stored alone site r e was is h =
     let terms : Terms = terms_of site alone was.contents in
     let crash = h.stores.crash in
     record {
       later = crash.later;
       covered = crash.covered;
-      reading = λ is_alone tells none. stored_some (deed_of r.outcome) e received h.deed (none r (0, lit< tt, refl));
+      reading = λ is_alone tells none. stored_some (deed_of r.outcome) e h.room.received h.deed (none r (0, lit< tt, refl));
       checkpoints = λ is_alone tells. (h.stores.reading is_alone tells).1;
-      opened = λ is_alone ids t x le o. elim (crash.moves (rw (sym (h.found is_alone)) (ids_stored (deed_of r.outcome) e received r.traces.before.book h.deed ids.0)) t x le o) [
+      opened = λ is_alone ids t x le o. elim (crash.moves (rw (sym (h.found is_alone)) (ids_stored (deed_of r.outcome) e h.room.received r.traces.before.book h.deed ids.0)) t x le o) [
         | inl p ↦ inl p
-        | inr m ↦ inr (inl (subst (λ (d : Deed). MayBeLeft terms r.traces d x) (sym h.deed) (
-          h.fetched,
-          leaves_of was.contents.limits.volume_bytes (taken_of e h.fetched.date received) x was.contents.seen r.traces.before.book (h.found is_alone) m,
-        )))
+        | inr m ↦ inr (inl (
+          e,
+          h.room,
+          inl h.deed,
+          leaves_of was.contents.limits.volume_bytes (taken_of e h.room.fetched.date h.room.received) x was.contents.seen r.traces.before.book (h.found is_alone) m,
+        ))
       ];
       left = λ is_alone tells ids x o. subst (λ (d : Deed). OpensBehind terms r.traces d (λ b. was.crash.openings was.crash.moment b) x) (sym h.deed)
-          (elim (crash.only (rw (sym (h.found is_alone)) (ids_stored (deed_of r.outcome) e received r.traces.before.book h.deed ids.0)) x o) [
+          (elim (crash.only (rw (sym (h.found is_alone)) (ids_stored (deed_of r.outcome) e h.room.received r.traces.before.book h.deed ids.0)) x o) [
             | inl same ↦ rw h.after same
             | inr bad ↦ no_other bad
           ]);
@@ -110,10 +112,12 @@ images_denied alone site r e was is h =
       checkpoints = λ is_alone tells. (h.stores.reading is_alone tells).1;
       opened = λ is_alone ids t x le o. elim (crash.moves (rw (sym (h.found is_alone)) (ids_denied (deed_of r.outcome) e r.traces.before.book h.deed ids.0)) t x le o) [
         | inl p ↦ inl p
-        | inr m ↦ inr (inl (subst (λ (d : Deed). MayBeLeft terms r.traces d x) (sym h.deed) (
+        | inr m ↦ inr (inl (
+          e,
           h.room,
+          inr h.deed,
           leaves_of was.contents.limits.volume_bytes (taken_of e h.room.fetched.date h.room.received) x was.contents.seen r.traces.before.book (h.found is_alone) m,
-        )))
+        ))
       ];
       left = λ is_alone tells ids x o. subst (λ (d : Deed). OpensBehind terms r.traces d (λ b. was.crash.openings was.crash.moment b) x) (sym h.deed)
           (elim (crash.refused is_alone tells (rw (sym (h.found is_alone)) (ids_denied (deed_of r.outcome) e r.traces.before.book h.deed ids.0)) refl) [

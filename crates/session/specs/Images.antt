@@ -1,5 +1,5 @@
 -- Which books a stop may leave, while a connection is served over an archive alone.
-use Rattle.std.specs.Prelude.{◌≡◌, ◌≢◌, ◌⊎◌, ◌≤◌, List, [], ◌∷◌, Contains, IsTrue, Ok, ⊤}
+use Rattle.std.specs.Prelude.{◌≡◌, ◌≢◌, ◌⊎◌, ◌≤◌, List, [], ◌∷◌, Contains, IsTrue, ⊤}
 use Rattle.archive_shelf.specs.Openings.{SameBook, HasIds, Moves, StaysCovered, MayLeave}
 use Rattle.archive_shelf.specs.Storing.{Storing, stored_by}
 use Rattle.archive_shelf.specs.Told.{Told}
@@ -7,7 +7,7 @@ use Rattle.capture.specs.declared.book.Book.{Book}
 use Rattle.capture.specs.declared.refusal.Refusal.TheVariants.{DiskFault}
 use Rattle.http_head.specs.declared.head.Received.{Received}
 use Rattle.warc_journal.specs.Extents.{cdxj_files}
-use Rattle.session.specs.Exchanges.{Exchange, Fails, Passes, Fetched, HasRoom, taken_of}
+use Rattle.session.specs.Exchanges.{Exchange, Fails, Passes, HasRoom, taken_of}
 use Rattle.session.specs.Rounds.{Outcome, Exchanged, Round}
 use Rattle.session.specs.Traces.{Terms, Traces}
 
@@ -23,20 +23,13 @@ deed_of (Exchanged e (Fails DiskFault)) = IsDenied e
 deed_of (Exchanged e (Passes received payload)) = Stores e received
 deed_of other = NoDeed
 
--- storing the capture of an exchange, wherever it is stopped, may leave the book
-abbrev pub MayBeLeft : Terms → Traces → Deed → Book → Type 0
-MayBeLeft terms traces NoDeed x = ⊥
-MayBeLeft terms traces (Stores e received) x =
-    (fetched : Fetched e (Ok received) traces)
-    × MayLeave terms.limits.volume_bytes traces.before.book (taken_of e fetched.date received) x
-MayBeLeft terms traces (IsDenied e) x =
-    (room : HasRoom terms e traces)
-    × MayLeave terms.limits.volume_bytes traces.before.book (taken_of e room.fetched.date room.received) x
-
--- one of the rounds may leave the book
+-- one of the rounds may leave the book, where storing the capture of its exchange, or the store that the disk refused, is stopped anywhere
 abbrev pub IsPassed : Terms → List Round → Book → Type 0
 IsPassed terms [] x = ⊥
-IsPassed terms (r ∷ rounds) x = MayBeLeft terms r.traces (deed_of r.outcome) x ⊎ IsPassed terms rounds x
+IsPassed terms (r ∷ rounds) x =
+    ((e : Exchange) × (room : HasRoom terms e r.traces) × ((deed_of r.outcome ≡ Stores e room.received) ⊎ (deed_of r.outcome ≡ IsDenied e))
+    × MayLeave terms.limits.volume_bytes r.traces.before.book (taken_of e room.fetched.date room.received) x)
+    ⊎ IsPassed terms rounds x
 
 -- Which books may be opened behind a round, by those that might be before: behind a store that one alone. Behind a store that the
 -- disk refused also what might be opened before it, where the book stayed, and what it may have left: the capture may be there, or

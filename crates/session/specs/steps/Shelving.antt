@@ -4,21 +4,20 @@ use Rattle.archive_shelf.specs.Told.{StoresOn, Told}
 use Rattle.archive_shelf.specs.declared.fault.StoreFault.TheVariants.{DiskFault}
 use Rattle.archive_shelf.specs.declared.receipt.Receipt.{Receipt}
 use Rattle.capture.specs.declared.site.Site.{Site}
-use Rattle.http_head.specs.declared.head.Received.{Received}
-use Rattle.session.specs.Exchanges.{Exchange, Fetched, HasRoom, taken_of}
+use Rattle.session.specs.Exchanges.{Exchange, HasRoom, taken_of}
 use Rattle.session.specs.Images.{Stores, IsDenied, deed_of}
 use Rattle.session.specs.Rounds.{Round}
 use Rattle.session.specs.Traces.{terms_of}
 
 module _ (alone : Bool) (site : Site) (r : Round) (e : Exchange) where
   -- a capture was stored in the book that was seen before
-  pub record HasKept (received : Received) (was is : Told) : Type 0 where
-    pub deed : deed_of r.outcome ≡ Stores e received
-    pub fetched : Fetched e (Ok received) r.traces
+  pub record HasKept (was is : Told) : Type 0 where
+    pub room : HasRoom (terms_of site alone was.contents) e r.traces
+    pub deed : deed_of r.outcome ≡ Stores e room.received
     pub found : IsTrue alone → r.traces.before.book ≡ was.contents.seen
     pub after : r.traces.after.book ≡ is.contents.seen
     pub receipt : Receipt
-    pub stores : StoresOn alone (taken_of e fetched.date received) was is (Ok receipt)
+    pub stores : StoresOn alone (taken_of e room.fetched.date room.received) was is (Ok receipt)
 
   -- the disk refused to store a capture in the book that was seen before
   pub record WasDenied (was is : Told) : Type 0 where
