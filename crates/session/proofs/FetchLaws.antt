@@ -82,10 +82,13 @@ module _ (alone : Bool) (site : Site) (e : Exchange) (closes : Bool) (date : ℕ
     comes = refused_comes alone site e refusal asks closes (dialed date (logs.t ∷ []) before now) result shelf shelf same
         (λ lacked. untouched alone site e lacked (Some (Fails refusal)) (dialed date (logs.t ∷ []) before now) shelf earlier deed refl dialer
         (subst (λ (n : ℕ). CountsMet n shelf.faults shelf.faults) (sym none) (none_met shelf.faults))
-        (λ incoming text asked. (asked, is logs.t (
-          record { date = date; timed = refl; in_range = in_range; t = logs.t; linked = refl; fetched = logs.fetched },
-          record { book = refl; shown = shown_itself alone shelf.contents.shown },
-        )))) refuses;
+        (λ incoming text asked. (
+          asked,
+          is logs.t (
+            record { date = date; timed = refl; in_range = in_range; t = logs.t; linked = refl; fetched = logs.fetched },
+            record { book = refl; shown = shown_itself alone shelf.contents.shown },
+          ),
+        ))) refuses;
   }
 
   -- by the fault

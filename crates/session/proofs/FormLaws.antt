@@ -16,7 +16,7 @@ use Rattle.surt_key.specs.Key.{key_of}
 use Rattle.replay_url.proofs.OneForm.{one_form}
 use Rattle.session.specs.Complete.{IsFaultless, HasShown, HasWanted, IsAnswer, CapturesThatAreThereAreReplayed}
 use Rattle.session.specs.Rounds.{Outcome, Visited, IsDecided, IsTextOf, disk_fault}
-use Rattle.session.specs.SiteAnswers.{SiteRequest, SiteReply, Refuses, Redirects, Replays, Lists, Finds, Ships, HasNoMore, Asks, IsSoughtTime, IsDated, IsRejected, IsSiteReply, date_field, serves_method}
+use Rattle.session.specs.SiteAnswers.{SiteRequest, SiteReply, Refuses, Redirects, Replays, Lists, Finds, Ships, HasNoMore, Asks, IsSoughtTime, IsDated, IsSiteReply, date_field, serves_method}
 use Rattle.session.specs.Traces.{Terms, View, Traces, CountsMet}
 use Rattle.session.proofs.CompleteLaws.{rose_not, text_by, told_not_untold}
 
@@ -116,7 +116,7 @@ queried q view form text asks wanted other none =
     let is : HasWanted view (ForQuery text) = subst (λ (f : Form). HasWanted view (question_of f)) same wanted in
     absurd (none is.0 is.1)
 
-found : {P : Type 0} (q : SiteRequest) (view : View) (form : Form) → Asks q form → HasWanted view (question_of form) → (terms : Terms) → IsRejected terms q NoCapture view → P
+found : {P : Type 0} (q : SiteRequest) (view : View) (form : Form) → Asks q form → HasWanted view (question_of form) → (terms : Terms) → IsSiteReply terms q (Refuses NoCapture) view → P
 found q view form asks wanted terms (other, also, wished, asked, key, keyed, none) =
     let same : form ≡ other = one_form (parts_at q.address) form other asks.is also.is in
     by_question (question_of other) (subst (λ (f : Form). HasWanted view (question_of f)) same wanted) asked where
@@ -132,7 +132,7 @@ found q view form asks wanted terms (other, also, wished, asked, key, keyed, non
 
 no_rejection : {P : Type 0} (terms : Terms) (q : SiteRequest) (refusal : Refusal) (traces : Traces) (form : Form) → IsTrue terms.tells → IsFaultless traces
     → CountsMet (disk_fault (Visited q (Refuses refusal))) traces.before.disk_faults traces.after.disk_faults
-    → Asks q form → HasWanted traces.before (question_of form) → IsRejected terms q refusal traces.before → P
+    → Asks q form → HasWanted traces.before (question_of form) → IsSiteReply terms q (Refuses refusal) traces.before → P
 no_rejection terms q MethodRefused traces form tells whole disk asks wanted h = unserved (serves_method q.message.head.method) asks.served h
 no_rejection terms q NotAForm traces form tells whole disk asks wanted h = formed (parts_at q.address) form asks.is h.1
 no_rejection terms q BadTime traces form tells whole disk asks wanted h = timed (parts_at q.address) form asks.is h.1

@@ -128,14 +128,18 @@ module _ (alone : Bool) (site : Site) (e : Exchange) (closes : Bool) (date : ℕ
       (stayed_met around.faults_before around.faults_now come.steady) (none_met shelf.faults) (λ incoming text asked. (
         refl,
         record { book = refl; shown = shown_itself alone shelf.contents.shown },
-        inr (e, asked, inr (record {
-          date = date;
-          timed = come.timed;
-          in_range = in_range;
-          t = come.t;
-          linked = come.linked;
-          fetched = lost e received come.t come.fetched;
-        })),
+        inr (
+          e,
+          asked,
+          inr (record {
+            date = date;
+            timed = come.timed;
+            in_range = in_range;
+            t = come.t;
+            linked = come.linked;
+            fetched = lost e received come.t come.fetched;
+          }),
+        ),
       ))
 
   -- ---- nothing was written
@@ -154,14 +158,17 @@ module _ (alone : Bool) (site : Site) (e : Exchange) (closes : Bool) (date : ℕ
   full_reply count limit lacked was is earlier h =
       unwritten alone site e lacked (Some (Fails (Full count limit))) around was is earlier h.leaves.0
       (quiet_by (Err (store_fault.Full count limit)) was is h tt) refl refl
-      (stayed_met around.faults_before around.faults_now come.steady) (stayed_met was.faults is.faults h.faults) (λ incoming text asked. (asked, (
-        received,
-        fetched_in is.contents.seen was is,
-        h.leaves.2,
-        h.leaves.3,
-        omega (arith, h.leaves.1, h.leaves.2, h.leaves.3),
-        record { book = refl; shown = h.leaves.0.shown },
-      )))
+      (stayed_met around.faults_before around.faults_now come.steady) (stayed_met was.faults is.faults h.faults) (λ incoming text asked. (
+        asked,
+        (
+          received,
+          fetched_in is.contents.seen was is,
+          h.leaves.2,
+          h.leaves.3,
+          omega (arith, h.leaves.1, h.leaves.2, h.leaves.3),
+          record { book = refl; shown = h.leaves.0.shown },
+        ),
+      ))
 
   -- an earlier capture is damaged
   damaged_reply : (number : ℕ) (kept : List ℕ) (found : Option (List ℕ)) (lacked : Bool) (was is : Told) → IsEarlier is.crash
@@ -170,12 +177,15 @@ module _ (alone : Bool) (site : Site) (e : Exchange) (closes : Bool) (date : ℕ
   damaged_reply number kept found lacked was is earlier h =
       unwritten alone site e lacked (Some (Fails (Damaged number kept found))) around was is earlier h.leaves.0
       (quiet_by (Err (store_fault.Damaged number kept found)) was is h tt) refl refl
-      (stayed_met around.faults_before around.faults_now come.steady) (stayed_met was.faults is.faults h.faults) (λ incoming text asked. (asked, (
-        room_in is.contents.seen was is h.leaves.1,
-        h.leaves.2,
-        h.leaves.3,
-        record { book = refl; shown = h.leaves.0.shown },
-      )))
+      (stayed_met around.faults_before around.faults_now come.steady) (stayed_met was.faults is.faults h.faults) (λ incoming text asked. (
+        asked,
+        (
+          room_in is.contents.seen was is h.leaves.1,
+          h.leaves.2,
+          h.leaves.3,
+          record { book = refl; shown = h.leaves.0.shown },
+        ),
+      ))
 
   -- there was no memory to store the capture
   unkept_reply : (was is : Told) → IsEarlier is.crash → StoresOn alone (taken_of e date received) was is (Err store_fault.Memory)
@@ -186,14 +196,18 @@ module _ (alone : Bool) (site : Site) (e : Exchange) (closes : Bool) (date : ℕ
       (stayed_met around.faults_before around.faults_now come.steady) (stayed_met was.faults is.faults h.faults) (λ incoming text asked. (
         refl,
         record { book = refl; shown = h.leaves.shown },
-        inr (e, asked, inr (record {
-          date = date;
-          timed = come.timed;
-          in_range = in_range;
-          t = come.t;
-          linked = come.linked;
-          fetched = lost e received come.t come.fetched;
-        })),
+        inr (
+          e,
+          asked,
+          inr (record {
+            date = date;
+            timed = come.timed;
+            in_range = in_range;
+            t = come.t;
+            linked = come.linked;
+            fetched = lost e received come.t come.fetched;
+          }),
+        ),
       ))
 
   -- ---- the disk
@@ -205,12 +219,15 @@ module _ (alone : Bool) (site : Site) (e : Exchange) (closes : Bool) (date : ℕ
   denied_reply lacked was is consistent h = record {
     found = h.leaves.0;
     led = h.leaves.1;
-    by = λ incoming text asked. (asked, (
-      room_in h.leaves.0 was is h.leaves.2,
-      h.leaves.3,
-      h.leaves.4,
-      stays_consistent alone site e was is around.faults_now (ap (λ (x : Contents). x.tells) h.leaves.5) consistent,
-    ));
+    by = λ incoming text asked. (
+      asked,
+      (
+        room_in h.leaves.0 was is h.leaves.2,
+        h.leaves.3,
+        h.leaves.4,
+        stays_consistent alone site e was is around.faults_now (ap (λ (x : Contents). x.tells) h.leaves.5) consistent,
+      ),
+    );
     kept = λ lacking. refl;
     dialer = stayed_met around.faults_before around.faults_now come.steady;
     disk = rose_met was.faults is.faults h.faults.1;
@@ -247,19 +264,22 @@ module _ (alone : Bool) (site : Site) (e : Exchange) (closes : Bool) (date : ℕ
   stored_reply payload receipt was is law payload_is has consistent h = record {
     found = h.leaves.found;
     led = h.leaves.led;
-    by = λ incoming text asked. (asked, record {
-      fetched = fetched_in h.leaves.found was is;
-      payload_is = payload_is;
-      room = h.leaves.not_full;
-      receipt = receipt;
-      number_is = h.leaves.number;
-      refers = h.leaves.refers;
-      gained = h.leaves.gained;
-      by_rule = h.leaves.by_rule;
-      there = there_is payload receipt was is law has consistent h;
-      shown = h.leaves.shown;
-      consistent = stays_consistent alone site e was is around.faults_now (ap (λ (x : Contents). x.tells) h.leaves.others) consistent;
-    });
+    by = λ incoming text asked. (
+      asked,
+      record {
+        fetched = fetched_in h.leaves.found was is;
+        payload_is = payload_is;
+        room = h.leaves.not_full;
+        receipt = receipt;
+        number_is = h.leaves.number;
+        refers = h.leaves.refers;
+        gained = h.leaves.gained;
+        by_rule = h.leaves.by_rule;
+        there = there_is payload receipt was is law has consistent h;
+        shown = h.leaves.shown;
+        consistent = stays_consistent alone site e was is around.faults_now (ap (λ (x : Contents). x.tells) h.leaves.others) consistent;
+      },
+    );
     kept = λ lacking. absurd (false≢true lacking);
     dialer = stayed_met around.faults_before around.faults_now come.steady;
     disk = stayed_met was.faults is.faults h.faults;

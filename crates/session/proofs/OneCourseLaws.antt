@@ -171,7 +171,7 @@ module _ (laws : Choosing) (terms : Terms) (served : ℕ) (tells : IsTrue terms.
         same = record {
           outcome = is ∙ outcomes ∙ sym also;
           interim = own ∙ ap (told_interim terms.site) same.head_is ∙ sym its;
-          text = one_refusal_text terms served other b (subst (λ (o : Outcome). IsTextOf terms served o r.text) outcomes text) too;
+          text = one_refusal_text terms served other b r.text s.text (subst (λ (o : Outcome). IsTextOf terms served o r.text) outcomes text) too;
           book = idle_book h.1 k.1;
         };
         shown = λ alone. idle_shown alone h.1 k.1;

@@ -54,7 +54,7 @@ use Rattle.time_text.specs.Reading.{IsHttpDate}
 use Rattle.warc_text.specs.Growth.{NumbersHaveOneGroup}
 use Rattle.warc_text.specs.Records.{info_text}
 use Rattle.session.specs.Rounds.{Visited, disk_fault}
-use Rattle.session.specs.SiteAnswers.{SiteRequest, SiteReply, Refuses, Redirects, Replays, Lists, Finds, Ships, HasNoMore, Asks, IsRejected, IsSiteReply, IsSiteText, IsSoughtTime, Reaches, Wants, date_field, serves_method}
+use Rattle.session.specs.SiteAnswers.{SiteRequest, SiteReply, Refuses, Redirects, Replays, Lists, Finds, Ships, HasNoMore, Asks, IsSiteReply, IsSiteText, IsSoughtTime, Reaches, Wants, date_field, serves_method}
 use Rattle.session.specs.Traces.{Terms, View}
 use Rattle.session.proofs.CompleteLaws.{told_not_untold}
 use Rattle.session.proofs.FormLaws.{dated, formed, timed, unserved}
@@ -234,7 +234,7 @@ asked : (terms : Terms) (q : SiteRequest) (view : View) (reply : SiteReply) (for
 asked terms q view reply form question asks is follows =
     Asking form asks (subst (λ (x : Question). Follows terms q view x reply) (sym is) follows)
 
-shows_none : (terms : Terms) (q : SiteRequest) (view : View) → IsRejected terms q NoCapture view → Answers terms q view (Refuses NoCapture)
+shows_none : (terms : Terms) (q : SiteRequest) (view : View) → IsSiteReply terms q (Refuses NoCapture) view → Answers terms q view (Refuses NoCapture)
 shows_none terms q view (form, asks, wished, asked_is, key, keyed, none) = by_question (question_of form) refl asked_is where
   of_url : (url : List ℕ) → Some url ≡ Some wished → ShowsNoneOf view url
   of_url url e = let same : url ≡ wished = same_Some url wished e in
@@ -250,7 +250,7 @@ shows_none terms q view (form, asks, wished, asked_is, key, keyed, none) = by_qu
 one_met : {P : Type 0} → ◌≡◌ {A = ℕ} 1 0 → P
 one_met e = absurd (omega (arith, e))
 
-past_number : (terms : Terms) (q : SiteRequest) (view : View) (number count : ℕ) → IsRejected terms q (NoSuch number count) view
+past_number : (terms : Terms) (q : SiteRequest) (view : View) (number count : ℕ) → IsSiteReply terms q (Refuses (NoSuch number count)) view
     → Answers terms q view (Refuses (NoSuch number count))
 past_number terms q view number count (inl (asks, past), none, is) =
     Asking (Number number) asks (PastAll (ap (λ n. Refuses (NoSuch number n)) is) past)
@@ -258,7 +258,7 @@ past_number terms q view number count (inr (asks, past), none, is) =
     Asking (Ship number) asks (PastNext (ap (λ n. Refuses (NoSuch number n)) is) past)
 
 rejected : (terms : Terms) (q : SiteRequest) (refusal : Refusal) (view : View) → IsTrue terms.tells → disk_fault (Visited q (Refuses refusal)) ≡ 0
-    → IsRejected terms q refusal view → Answers terms q view (Refuses refusal)
+    → IsSiteReply terms q (Refuses refusal) view → Answers terms q view (Refuses refusal)
 rejected terms q MethodRefused view tells disk h = Unserved refl h
 rejected terms q NotAForm view tells disk h = Formless refl h.0 h.1
 rejected terms q BadTime view tells disk h = Timeless refl h.0 h.1

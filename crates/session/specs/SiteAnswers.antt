@@ -108,39 +108,35 @@ Wants q view other number = ⊥
 
 -- ---- the replies
 
--- Why the site refuses. A number is told to be that of no capture of the book, nor of one that is shown; or to be that of no piece, nor of
--- the next one, which is still to come. A damaged capture is the one that keeps the payload, or the one whose piece is asked for.
-abbrev pub IsRejected : Terms → SiteRequest → Refusal → View → Type 0
-IsRejected terms q MethodRefused view = serves_method q.message.head.method ≡ false
-IsRejected terms q NotAForm view = (serves_method q.message.head.method ≡ true) × IsFault q.address form_fault.NotAForm
-IsRejected terms q BadTime view = (serves_method q.message.head.method ≡ true) × IsFault q.address form_fault.BadTime
-IsRejected terms q BadAcceptDatetime view =
+-- The reply follows from what is seen of the archive. A refusal tells a number as that of no capture of the book, nor of one that is shown; or as that of no
+-- piece, nor of the next one, which is still to come; and a damaged capture is the one that keeps the payload, or the one whose piece is asked for. A redirect
+-- leads to the capture that is nearest, unless the address names its date. The capture that is wanted is replayed: whatever is told, it is what each entry tells
+-- that is shown under its number, its target, its date and the digest of its payload; where the disk is told, each such entry is that of the book's capture, and
+-- so is the one that was found by date. All captures of the URL that are shown are listed, of which there are some. Whatever is told, the group of a piece tells
+-- the digest of each entry that is shown under its number. The next piece is still to come.
+abbrev pub IsSiteReply : Terms → SiteRequest → SiteReply → View → Type 0
+IsSiteReply terms q (Refuses MethodRefused) view = serves_method q.message.head.method ≡ false
+IsSiteReply terms q (Refuses NotAForm) view = (serves_method q.message.head.method ≡ true) × IsFault q.address form_fault.NotAForm
+IsSiteReply terms q (Refuses BadTime) view = (serves_method q.message.head.method ≡ true) × IsFault q.address form_fault.BadTime
+IsSiteReply terms q (Refuses BadAcceptDatetime) view =
     (serves_method q.message.head.method ≡ true) × ((url : List ℕ) × IsForm q.address (Gate url))
     × ((time : ℕ) → ¬ (IsSoughtTime None (date_field q) time))
-IsRejected terms q BadQuery view = (text : List ℕ) × Asks q (Queried text) × ((query : Query) → ¬ (IsQuery text query))
-IsRejected terms q (NoSuch number count) view =
+IsSiteReply terms q (Refuses BadQuery) view = (text : List ℕ) × Asks q (Queried text) × ((query : Query) → ¬ (IsQuery text query))
+IsSiteReply terms q (Refuses (NoSuch number count)) view =
     ((Asks q (Number number) × (length (captures view.book) ≤ number)) ⊎ (Asks q (Ship number) × (length (captures view.book) < number)))
     × ((entry : Facts) → Contains view.shown entry → entry.number ≢ number) × (count ≡ length (captures view.book))
-IsRejected terms q NoCapture view =
+IsSiteReply terms q (Refuses NoCapture) view =
     (form : Form) × Asks q form × (url : List ℕ) × (asked_url (question_of form) ≡ Some url) × (key : List ℕ) × (key_of url ≡ Some key)
     × HasNone view.shown key
-IsRejected terms q DiskFault view =
+IsSiteReply terms q (Refuses DiskFault) view =
     ((question : Question) × (number : ℕ) × Wants q view question number)
     ⊎ ((number : ℕ) × Asks q (Ship number) × (number < length (captures view.book)))
-IsRejected terms q (Damaged at kept found) view =
+IsSiteReply terms q (Refuses (Damaged at kept found)) view =
     (((question : Question) × (number : ℕ) × Wants q view question number
     × ((at ≡ number) ⊎ ((stored : Stored) × (slice_get (captures view.book) number ≡ Some stored) × (stored.kept ≡ Same at))))
     ⊎ (Asks q (Ship at) × (at < length (captures view.book))))
     × IsDamaged terms.tells kept found
-IsRejected terms q other view = ⊥
-
--- The reply follows from what is seen of the archive. A redirect leads to the capture that is nearest, unless the address names its date. The capture that
--- is wanted is replayed: whatever is told, it is what each entry tells that is shown under its number, its target, its date and the digest of its payload;
--- where the disk is told, each such entry is that of the book's capture, and so is the one that was found by date. All captures of the URL that are shown are
--- listed, of which there are some. Whatever is told, the group of a piece tells the digest of each entry that is shown under its number. The next piece is
--- still to come.
-abbrev pub IsSiteReply : Terms → SiteRequest → SiteReply → View → Type 0
-IsSiteReply terms q (Refuses refusal) view = IsRejected terms q refusal view
+IsSiteReply terms q (Refuses other) view = ⊥
 IsSiteReply terms q (Redirects sought entry) view = Reaches q view.shown sought entry × (names_date sought.named entry.date ≡ false)
 IsSiteReply terms q (Replays question brought) view =
     (number : ℕ) × Wants q view question number × IsReplayable brought × IsNamed view.book number brought
