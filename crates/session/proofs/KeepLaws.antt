@@ -117,6 +117,16 @@ module _ (alone : Bool) (site : Site) (e : Exchange) (closes : Bool) (date : ℕ
     fetched = come.fetched;
   }
 
+  abbrev lost_in : (found : Book) (was is : Told) → Fetched e (Err fetch_fault.Memory) (traces_of alone site e around found was is)
+  lost_in found was is = record {
+    date = date;
+    timed = come.timed;
+    in_range = in_range;
+    t = come.t;
+    linked = come.linked;
+    fetched = lost e received come.t come.fetched;
+  }
+
   abbrev room_in : (found : Book) (was is : Told) → length (captures found) < was.contents.limits.captures
       → HasRoom (terms_in alone site e was) e (traces_of alone site e around found was is)
   room_in found was is room = record { received = received; fetched = fetched_in found was is; room = room }
@@ -128,18 +138,7 @@ module _ (alone : Bool) (site : Site) (e : Exchange) (closes : Bool) (date : ℕ
       (stayed_met around.faults_before around.faults_now come.steady) (none_met shelf.faults) (λ incoming text asked. (
         refl,
         record { book = refl; shown = shown_itself alone shelf.contents.shown },
-        inr (
-          e,
-          asked,
-          inr (record {
-            date = date;
-            timed = come.timed;
-            in_range = in_range;
-            t = come.t;
-            linked = come.linked;
-            fetched = lost e received come.t come.fetched;
-          }),
-        ),
+        inr (e, asked, inr (lost_in shelf.contents.seen shelf shelf)),
       ))
 
   -- ---- nothing was written
@@ -196,18 +195,7 @@ module _ (alone : Bool) (site : Site) (e : Exchange) (closes : Bool) (date : ℕ
       (stayed_met around.faults_before around.faults_now come.steady) (stayed_met was.faults is.faults h.faults) (λ incoming text asked. (
         refl,
         record { book = refl; shown = h.leaves.shown },
-        inr (
-          e,
-          asked,
-          inr (record {
-            date = date;
-            timed = come.timed;
-            in_range = in_range;
-            t = come.t;
-            linked = come.linked;
-            fetched = lost e received come.t come.fetched;
-          }),
-        ),
+        inr (e, asked, inr (lost_in is.contents.seen was is)),
       ))
 
   -- ---- the disk
