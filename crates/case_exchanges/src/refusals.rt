@@ -15,7 +15,7 @@ pub fn refused(alloc: Global, text: &[u8]) -> Result<Option<Vec<u8>>, Memory> {
     let Some(refusal) = refusal_in(words.rest) else {
         return Ok(None);
     };
-    let text = refusal_text(alloc, &refusal, method == "HEAD", word == "closes")?;
+    let text = refusal_text(&refusal, method == "HEAD", word == "closes");
     always(told(alloc, text.as_slice()))
 }
 

@@ -7,6 +7,7 @@ mod FeedLaws
 mod FilterLemmas
 mod HostBytes
 mod MemberLemmas
+mod RefusalLaws
 mod ResponseLaws
 mod SendLaws
 mod SentFields

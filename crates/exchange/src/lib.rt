@@ -26,5 +26,5 @@ pub use forward::forward_text;
 pub use laws::requests_can_be_stored;
 pub use output::{print_all, write_all};
 pub use receiving::{Came, receive_request, receive_response};
-pub use refusal::{memory_text, refusal_text};
+pub use refusal::{RefusalText, memory_text, refusal_text};
 pub use window::Window;
