@@ -1,5 +1,5 @@
 -- What the steps of an exchange with an origin make of a round.
-use Rattle.std.proofs.Common.{◌≡◌, inl, inr, ℕ, ◌-◌, ◌^◌, ◌<◌, Bool, true, false, ◌||◌, IsTrue, IsErr, List, [], ◌∷◌, ◌++◌, length, Result, Ok, Err, refl, sym, ◌∙◌, ap, Option, Some, None}
+use Rattle.std.proofs.Common.{◌≡◌, inl, inr, ℕ, ◌-◌, ◌^◌, ◌<◌, Bool, true, false, ◌||◌, IsTrue, IsErr, List, [], ◌∷◌, ◌++◌, length, Result, Ok, Err, refl, sym, ◌∙◌, ap, subst, Option, Some, None}
 use Rattle.std.proofs.lemmas.List.{append-nil}
 use Rattle.std.specs.Prelude.{MatchBool}
 use Rattle.archive_shelf.proofs.CallLaws.{shown_itself, stays_itself, writes_nothing_itself}
@@ -19,15 +19,15 @@ use Rattle.session.specs.steps.Stages.{terms_at}
 use Rattle.session.specs.steps.Answering.{Incoming, MakesRound}
 use Rattle.session.specs.Connection.{Setting}
 use Rattle.session.specs.Exchanges.{Exchange, Reply, Fails, Passes}
-use Rattle.session.specs.steps.Declining.{Refuses}
+use Rattle.session.specs.steps.Declining.{IsRefusing}
 use Rattle.session.specs.steps.Exchanging.{AnswersProxied, Around, Comes, Replies, is_cut_off, reply_text, round_of, traces_of, view_before, IsLeft, outcome_of}
 use Rattle.session.specs.Gains.{World}
 use Rattle.session.specs.Images.{NoDeed, deed_of}
 use Rattle.session.specs.Requests.{IsAsked, IsInterim, closes_after}
-use Rattle.session.specs.Rounds.{Exchanged, disk_fault, numbers_by, origin_fault, IsTextOf, closes_outcome, is_from_shown, refusal_in}
+use Rattle.session.specs.Rounds.{Exchanged, disk_fault, is_refusal, numbers_by, origin_fault, IsTextOf, closes_outcome, is_from_shown, refusal_in}
 use Rattle.session.specs.Traces.{CountsMet, Terms}
 use Rattle.session.specs.steps.Givens.{Given}
-use Rattle.session.proofs.GainLaws.{none_met}
+use Rattle.session.proofs.GainLaws.{none_met, sufficed}
 use Rattle.session.proofs.StoreLaws.{images_unwritten}
 
 -- ---- the round
@@ -83,6 +83,7 @@ made alone setting e incoming lacked reply times transcripts text was is asked k
       dialer = h.dialer;
       disk = h.disk;
       kept = h.kept;
+      no_refusal = h.no_refusal;
       interim_is = inl known;
       text_is = text_is;
     };
@@ -119,18 +120,18 @@ comes_answers alone setting e closes (Err memory) times transcripts was is answe
 
 -- ---- the reply
 
--- a refusal, whether or not there was memory for it
+-- a refusal
 pub refused_comes : (alone : Bool) (site : Site) (e : Exchange) (refusal : Refusal) (asks closes : Bool) (around : Around)
     (result : Result Given Memory) (was is : Told) → asks ≡ asks_for_head e.message.head.method
-    → ((lacked : Bool) → Replies alone site e lacked (Some (Fails refusal)) around was is) → Refuses refusal asks closes result
+    → Replies alone site e false (Some (Fails refusal)) around was is → IsRefusing refusal asks closes result
     → Comes alone site e around closes result was is
-refused_comes alone site e refusal asks closes around (Ok answer) was is same h r = record {
-  reply = Fails refusal;
-  replies = h false;
-  text_is = r.text_is ∙ ap (λ (b : Bool). refusal_text refusal b closes) same;
-  closes_is = r.closes_is;
-}
-refused_comes alone site e refusal asks closes around (Err memory) was is same h r = (Some (Fails refusal), h true)
+refused_comes alone site e refusal asks closes around result was is same h refusing =
+    subst (λ (r : Result Given Memory). Comes alone site e around closes r was is) (sym refusing) (record {
+      reply = Fails refusal;
+      replies = h;
+      text_is = ap (λ (b : Bool). refusal_text refusal b closes) same;
+      closes_is = refl;
+    })
 
 -- no answer, for want of memory
 pub lacking_comes : (alone : Bool) (site : Site) (e : Exchange) (closes : Bool) (around : Around) (result : Result Given Memory)
@@ -149,15 +150,17 @@ none_stored a b numbers none e =
 pub unwritten : (alone : Bool) (site : Site) (e : Exchange) (lacked : Bool) (reply : Option Reply) (around : Around) (was is : Told)
     → IsEarlier is.crash → Stays alone was.contents is.contents → WritesNothing alone was is → deed_of (outcome_of e reply) ≡ NoDeed
     → numbers_by (outcome_of e reply) (view_before alone site e around is.contents.seen was) ≡ []
+    → (IsTrue lacked → is_refusal (outcome_of e reply) ≡ false)
     → CountsMet (origin_fault (outcome_of e reply)) around.faults_before around.faults_now
     → CountsMet (disk_fault (outcome_of e reply)) was.faults is.faults
     → IsLeft alone site e was lacked reply (traces_of alone site e around is.contents.seen was is)
     → Replies alone site e lacked reply around was is
-unwritten alone site e lacked reply around was is earlier stays quiet deed none dialer disk by = record {
+unwritten alone site e lacked reply around was is earlier stays quiet deed none unrefused dialer disk by = record {
   found = is.contents.seen;
   led = stays.seen;
   by = by;
   kept = λ lacking. none;
+  no_refusal = unrefused;
   dialer = dialer;
   disk = disk;
   stored = none_stored was.contents is.contents
@@ -172,13 +175,14 @@ unwritten alone site e lacked reply around was is earlier stays quiet deed none 
 pub untouched : (alone : Bool) (site : Site) (e : Exchange) (lacked : Bool) (reply : Option Reply) (around : Around) (shelf : Told)
     → IsEarlier shelf.crash → deed_of (outcome_of e reply) ≡ NoDeed
     → numbers_by (outcome_of e reply) (view_before alone site e around shelf.contents.seen shelf) ≡ []
+    → (IsTrue lacked → is_refusal (outcome_of e reply) ≡ false)
     → CountsMet (origin_fault (outcome_of e reply)) around.faults_before around.faults_now
     → CountsMet (disk_fault (outcome_of e reply)) shelf.faults shelf.faults
     → IsLeft alone site e shelf lacked reply (traces_of alone site e around shelf.contents.seen shelf shelf)
     → Replies alone site e lacked reply around shelf shelf
-untouched alone site e lacked reply around shelf earlier deed none dialer disk by =
+untouched alone site e lacked reply around shelf earlier deed none unrefused dialer disk by =
     unwritten alone site e lacked reply around shelf shelf earlier (stays_itself alone shelf.contents) (writes_nothing_itself alone shelf)
-    deed none dialer disk by
+    deed none unrefused dialer disk by
 
 -- ---- nobody was dialed
 
@@ -187,15 +191,15 @@ abbrev pub clock_alone : ℕ → ℕ → Around
 clock_alone now faults = record { times = now ∷ []; transcripts = []; faults_before = faults; faults_now = faults }
 
 -- the clock's answer has no text
-pub past_the_clock : (alone : Bool) (site : Site) (e : Exchange) (lacked : Bool) (now faults : ℕ) (shelf : Told)
-    → IsEarlier shelf.crash → (InRange now → ⊥) → Replies alone site e lacked (Some (Fails (ClockRange now))) (clock_alone now faults) shelf shelf
-past_the_clock alone site e lacked now faults shelf earlier past =
-    untouched alone site e lacked (Some (Fails (ClockRange now))) (clock_alone now faults) shelf earlier refl refl (none_met faults) (none_met shelf.faults)
+pub past_the_clock : (alone : Bool) (site : Site) (e : Exchange) (now faults : ℕ) (shelf : Told)
+    → IsEarlier shelf.crash → (InRange now → ⊥) → Replies alone site e false (Some (Fails (ClockRange now))) (clock_alone now faults) shelf shelf
+past_the_clock alone site e now faults shelf earlier past =
+    untouched alone site e false (Some (Fails (ClockRange now))) (clock_alone now faults) shelf earlier refl refl sufficed (none_met faults) (none_met shelf.faults)
     (λ incoming text asked. (asked, (refl, past, refl, record { book = refl; shown = shown_itself alone shelf.contents.shown })))
 
 -- there was no memory to compose the request
 pub unsent : (alone : Bool) (site : Site) (e : Exchange) (now faults : ℕ) (shelf : Told)
     → IsEarlier shelf.crash → Replies alone site e true None (clock_alone now faults) shelf shelf
 unsent alone site e now faults shelf earlier =
-    untouched alone site e true None (clock_alone now faults) shelf earlier refl refl (none_met faults) (none_met shelf.faults)
+    untouched alone site e true None (clock_alone now faults) shelf earlier refl refl (λ lacking. refl) (none_met faults) (none_met shelf.faults)
     (λ incoming text asked. (refl, record { book = refl; shown = shown_itself alone shelf.contents.shown }, inr (e, asked, inl (now, refl, refl))))

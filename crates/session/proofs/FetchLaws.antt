@@ -1,5 +1,5 @@
 -- What asking an origin makes of a round, where no response came.
-use Rattle.std.proofs.Common.{◌≡◌, inl, inr, ℕ, ◌≤◌, Bool, true, List, [], ◌∷◌, ◌++◌, Result, Ok, Err, refl, sym, ◌∙◌, ap, subst, arith, Some, None}
+use Rattle.std.proofs.Common.{◌≡◌, inl, inr, ℕ, ◌≤◌, Bool, true, false, List, [], ◌∷◌, ◌++◌, Result, Ok, Err, refl, sym, ◌∙◌, ap, subst, arith, Some, None}
 use Rattle.std.proofs.lemmas.List.{append-nil}
 use Rattle.archive_shelf.proofs.CallLaws.{shown_itself}
 use Rattle.archive_shelf.specs.Openings.{IsEarlier}
@@ -18,14 +18,14 @@ use Rattle.outside.specs.Records.{Links}
 use Rattle.outside.specs.declared.dialer.Transcript.{Transcript}
 use Rattle.time_text.specs.Texts.{InRange}
 use Rattle.session.specs.Exchanges.{Exchange, Fails, Fetched, IsReply}
-use Rattle.session.specs.steps.Declining.{Declines, Refuses, refusal_by_fetch}
+use Rattle.session.specs.steps.Declining.{Declines, IsRefusing, refusal_by_fetch}
 use Rattle.session.specs.steps.Exchanging.{asking_of, Around, Asks, terms_in, traces_of}
 use Rattle.session.specs.Images.{NoDeed, deed_of}
 use Rattle.session.specs.Rounds.{Exchanged, disk_fault, origin_fault}
 use Rattle.session.specs.Traces.{CountsMet, StaysView}
 use Rattle.session.specs.steps.Givens.{Given}
 use Rattle.session.proofs.ExchangeLaws.{lacking_comes, refused_comes, untouched}
-use Rattle.session.proofs.GainLaws.{none_met}
+use Rattle.session.proofs.GainLaws.{none_met, sufficed}
 use Rattle.session.proofs.VisitLaws.{rose_met, stayed_met}
 
 -- what clock and dialer tell of one exchange
@@ -74,13 +74,13 @@ module _ (alone : Bool) (site : Site) (e : Exchange) (closes : Bool) (date : ℕ
       → CountsMet (origin_fault (Exchanged e (Fails refusal))) before now → disk_fault (Exchanged e (Fails refusal)) ≡ 0
       → ((t : Transcript) → Vain fault t
       → IsReply (terms_in alone site e shelf) e (Fails refusal) (traces_of alone site e (dialed date (t ∷ []) before now) shelf.contents.seen shelf shelf))
-      → Refuses refusal asks closes result
+      → IsRefusing refusal asks closes result
       → Asks alone site e closes date result (record { links = old; faults = before; shelf = shelf }) (record { links = new; faults = now; shelf = shelf })
   vain fault refusal logs deed dialer none is refuses = record {
     transcripts = logs.t ∷ [];
     logged = logs.gains;
     comes = refused_comes alone site e refusal asks closes (dialed date (logs.t ∷ []) before now) result shelf shelf same
-        (λ lacked. untouched alone site e lacked (Some (Fails refusal)) (dialed date (logs.t ∷ []) before now) shelf earlier deed refl dialer
+        (untouched alone site e false (Some (Fails refusal)) (dialed date (logs.t ∷ []) before now) shelf earlier deed refl sufficed dialer
         (subst (λ (n : ℕ). CountsMet n shelf.faults shelf.faults) (sym none) (none_met shelf.faults))
         (λ incoming text asked. (
           asked,
@@ -99,7 +99,7 @@ module _ (alone : Bool) (site : Site) (e : Exchange) (closes : Bool) (date : ℕ
     transcripts = [];
     logged = same_log old new logs;
     comes = refused_comes alone site e DialFault asks closes (dialed date [] before now) result shelf shelf same
-        (λ lacked. untouched alone site e lacked (Some (Fails DialFault)) (dialed date [] before now) shelf earlier refl refl
+        (untouched alone site e false (Some (Fails DialFault)) (dialed date [] before now) shelf earlier refl refl sufficed
         (rose_met before now counts.1) (none_met shelf.faults)
         (λ incoming text asked. (asked, (date, refl, in_range, refl, record { book = refl; shown = shown_itself alone shelf.contents.shown })))) fails;
   }
@@ -117,7 +117,7 @@ module _ (alone : Bool) (site : Site) (e : Exchange) (closes : Bool) (date : ℕ
     transcripts = [];
     logged = same_log old new none;
     comes = lacking_comes alone site e closes (dialed date [] before now) result shelf shelf
-        (untouched alone site e true None (dialed date [] before now) shelf earlier refl refl
+        (untouched alone site e true None (dialed date [] before now) shelf earlier refl refl (λ lacking. refl)
         (stayed_met before now counts) (none_met shelf.faults)
         (λ incoming text asked. (refl, record { book = refl; shown = shown_itself alone shelf.contents.shown }, inr (e, asked, inl (date, refl, refl))))) fails;
   }
@@ -125,7 +125,7 @@ module _ (alone : Bool) (site : Site) (e : Exchange) (closes : Bool) (date : ℕ
     transcripts = logs.t ∷ [];
     logged = logs.gains;
     comes = lacking_comes alone site e closes (dialed date (logs.t ∷ []) before now) result shelf shelf
-        (untouched alone site e true None (dialed date (logs.t ∷ []) before now) shelf earlier refl refl
+        (untouched alone site e true None (dialed date (logs.t ∷ []) before now) shelf earlier refl refl (λ lacking. refl)
         (stayed_met before now counts) (none_met shelf.faults) (λ incoming text asked. (
           refl,
           record { book = refl; shown = shown_itself alone shelf.contents.shown },

@@ -18,10 +18,10 @@ use Rattle.session.specs.Connection.{Setting}
 use Rattle.session.specs.steps.Declining.{Declines, refusal_by_bring}
 use Rattle.session.specs.steps.Givens.{Given}
 use Rattle.session.specs.steps.Looking.{FindsJust, NamesNoTime, ReachesJust}
-use Rattle.session.specs.SiteAnswers.{SiteRequest, Refuses, IsSoughtTime, Replays, IsSiteReply}
+use Rattle.session.specs.SiteAnswers.{SiteRequest, IsSoughtTime, Replays, IsSiteReply}
 use Rattle.session.specs.Traces.{Terms}
-use Rattle.session.proofs.LookLaws.{found_answers, found_lacking_by, shown_on}
-use Rattle.session.proofs.VisitLaws.{refusal_is, told_damaged}
+use Rattle.session.proofs.LookLaws.{found_lacking_by, found_refuses, shown_on}
+use Rattle.session.proofs.VisitLaws.{told_damaged}
 
 -- ---- a field that names no time
 
@@ -65,16 +65,14 @@ pub found_unbrought : (alone : Bool) (setting : Setting) (q : SiteRequest) (soug
 found_unbrought alone setting q sought number (brings.NoSuch count) asks closes result was mid is earlier looks h same b reads declines =
     found_there alone mid.contents is.contents q sought number count h.reaches reads.stays.shown b
 found_unbrought alone setting q sought number brings.DiskFault asks closes result was mid is earlier looks h same b reads declines =
-    found_answers alone setting q (Refuses DiskFault) closes true result was mid is earlier looks h.knows reads refl
-    (λ faults. inl (ForNearest sought, number, (h.reaches.entry, h.reaches.reaches, h.reaches.named, h.reaches.number_is, b)))
-    (refusal_is result DiskFault asks (asks_for_head q.message.head.method) closes same declines.text_is) declines.closes_is
+    found_refuses alone setting q DiskFault asks closes true result was mid is earlier looks h.knows reads refl
+    (λ faults. inl (ForNearest sought, number, (h.reaches.entry, h.reaches.reaches, h.reaches.named, h.reaches.number_is, b))) same declines
 found_unbrought alone setting q sought number (brings.Damaged at kept found) asks closes result was mid is earlier looks h same b reads declines =
-    found_answers alone setting q (Refuses (Damaged at kept found)) closes false result was mid is earlier looks h.knows reads refl
+    found_refuses alone setting q (Damaged at kept found) asks closes false result was mid is earlier looks h.knows reads refl
     (λ faults. (
       inl (ForNearest sought, number, (h.reaches.entry, h.reaches.reaches, h.reaches.named, h.reaches.number_is, b.0), b.2),
       told_damaged _ _ kept found
           (stays_tells alone mid.contents is.contents reads.stays ∙ same_tells was.contents mid.contents looks.looks.others) b.3,
-    ))
-    (refusal_is result (Damaged at kept found) asks (asks_for_head q.message.head.method) closes same declines.text_is) declines.closes_is
+    )) same declines
 found_unbrought alone setting q sought number brings.Memory asks closes result was mid is earlier looks h same b reads declines =
     found_lacking_by alone setting q closes result was mid is earlier looks h.knows reads declines

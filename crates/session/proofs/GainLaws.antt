@@ -1,5 +1,6 @@
 -- What is gained in one step after another.
-use Rattle.std.proofs.Common.{◌≡◌, ℕ, ◌+◌, ◌-◌, ◌^◌, ◌<◌, Bool, List, [], ◌++◌, length, refl, sym, ◌∙◌, ap, arith, append_assoc, length-append}
+use Rattle.std.proofs.Common.{◌≡◌, ℕ, ◌+◌, ◌-◌, ◌^◌, ◌<◌, Bool, false, IsTrue, List, [], ◌++◌, length, refl, sym, ◌∙◌, ap, arith, append_assoc, length-append}
+use Rattle.std.proofs.lemmas.Bool.{false≢true}
 use Rattle.std.proofs.lemmas.List.{append-nil}
 use Rattle.archive_shelf.specs.Contents.{Contents}
 use Rattle.capture.specs.Faults.{RoseBy}
@@ -50,6 +51,10 @@ met_both a b x y z h k = record {
 
 pub none_met : (x : ℕ) → CountsMet 0 x x
 none_met x = record { rose = omega arith; steady = λ _. refl }
+
+-- memory sufficed
+pub sufficed : {P : Type 0} → IsTrue false → P
+sufficed lacking = absurd (false≢true lacking)
 
 stored_on : (a b c : Contents) (m n : List ℕ) → b ≡ record a { seen = b.seen; shown = b.shown; mine = a.mine ++ m }
     → c ≡ record b { seen = c.seen; shown = c.shown; mine = b.mine ++ n }

@@ -1,5 +1,4 @@
 -- What storing the capture of an exchange makes of a round.
-use Rattle.std.proofs.lemmas.Bool.{false≢true}
 use Rattle.std.proofs.Common.{◌≡◌, inr, ℕ, ◌<◌, ◌≤◌, Bool, true, false, ◌||◌, IsTrue, IfOk, List, [], ◌∷◌, ◌++◌, length, Option, Result, Ok, Err, refl, sym, ◌∙◌, ap, subst, arith, Some, None}
 use Rattle.archive_shelf.proofs.CallLaws.{leads_same, shown_itself}
 use Rattle.archive_shelf.specs.Answers.{WritesNone}
@@ -15,9 +14,11 @@ use Rattle.capture.specs.Payload.{IsPayload}
 use Rattle.capture.specs.declared.book.Book.{Book}
 use Rattle.capture.specs.declared.limits.TheConstants.{BODY_LIMIT}
 use Rattle.capture.specs.declared.memory.Memory.{Memory}
+use Rattle.capture.specs.declared.refusal.Refusal.{Refusal}
 use Rattle.capture.specs.declared.refusal.Refusal.TheVariants.{Full, DiskFault, Damaged}
 use Rattle.capture.specs.declared.site.Site.{Site}
 use Rattle.exchange.specs.Fetches.{IsFetched}
+use Rattle.exchange.specs.Refusals.{refusal_text}
 use Rattle.exchange.specs.Storing.{CanBeForwarded}
 use Rattle.http_wire.specs.Messages.{IsOneResponse}
 use Rattle.http_wire.specs.Storing.{CanBeStored}
@@ -28,12 +29,13 @@ use Rattle.outside.specs.declared.dialer.Transcript.{Transcript}
 use Rattle.time_text.specs.Texts.{InRange}
 use Rattle.warc_text.specs.Fits.{Fits}
 use Rattle.session.specs.Exchanges.{Exchange, Fails, Fetched, HasRoom, Passes, taken_of}
+use Rattle.session.specs.steps.Declining.{IsRefusing}
 use Rattle.session.specs.steps.Exchanging.{asking_of, Around, Comes, FollowsStore, HasCome, Keeps, PassesOn, Replies, round_of, terms_in, traces_of}
 use Rattle.session.specs.Laws.{StoredCapturesHaveTheirPayload}
 use Rattle.session.specs.Traces.{IsConsistentView, view_of}
 use Rattle.session.specs.steps.Givens.{Given}
 use Rattle.session.proofs.ExchangeLaws.{lacking_comes, none_stored, refused_comes, untouched, unwritten}
-use Rattle.session.proofs.GainLaws.{none_met}
+use Rattle.session.proofs.GainLaws.{none_met, sufficed}
 use Rattle.session.proofs.StoreLaws.{images_denied, images_stored}
 use Rattle.session.proofs.VisitLaws.{rose_met, stayed_met}
 
@@ -68,14 +70,20 @@ has_payload received method payload (stream, response) is = record {
 
 -- ---- the answer
 
+-- a refusal closes where the request asks for it
+refusing_closes : (answer : Given) (refusal : Refusal) (asks closes : Bool) → IsRefusing refusal asks closes (Ok answer) → IsTrue closes → IsTrue answer.closes
+refusing_closes answer refusal asks closes refusing c =
+    let same : answer ≡ record { text = refusal_text refusal asks closes; closes = closes } = cc in ap (λ (a : Given). a.closes) same ∙ c
+
 -- an answer behind a store closes where the request asks for it
 pub follows_close : (ready : Given) (asks closes : Bool) (said : Result Receipt StoreFault) (result : Result Given Memory)
     → FollowsStore ready asks closes said result → (IsTrue closes → IsTrue ready.closes)
     → IfOk result (λ answer. IsTrue closes → IsTrue answer.closes)
 follows_close ready asks closes (Ok receipt) (Ok answer) same h = λ c. let e : answer.closes ≡ ready.closes = cc in e ∙ h c
-follows_close ready asks closes (Err (store_fault.Full count limit)) (Ok answer) r h = λ c. r.closes_is ∙ c
-follows_close ready asks closes (Err store_fault.DiskFault) (Ok answer) r h = λ c. r.closes_is ∙ c
-follows_close ready asks closes (Err (store_fault.Damaged number kept found)) (Ok answer) r h = λ c. r.closes_is ∙ c
+follows_close ready asks closes (Err (store_fault.Full count limit)) (Ok answer) r h = refusing_closes answer (Full count limit) asks closes r
+follows_close ready asks closes (Err store_fault.DiskFault) (Ok answer) r h = refusing_closes answer DiskFault asks closes r
+follows_close ready asks closes (Err (store_fault.Damaged number kept found)) (Ok answer) r h =
+    refusing_closes answer (Damaged number kept found) asks closes r
 follows_close ready asks closes (Err store_fault.Memory) (Ok answer) err h = let bad : ⊥ = cc in absurd bad
 follows_close ready asks closes said (Err memory) r h = tt
 
@@ -134,7 +142,7 @@ module _ (alone : Bool) (site : Site) (e : Exchange) (closes : Bool) (date : ℕ
   -- there was no memory for the answer
   pub unready : (shelf : Told) → IsEarlier shelf.crash → Replies alone site e true None around shelf shelf
   unready shelf earlier =
-      untouched alone site e true None around shelf earlier refl refl
+      untouched alone site e true None around shelf earlier refl refl (λ lacking. refl)
       (stayed_met around.faults_before around.faults_now come.steady) (none_met shelf.faults) (λ incoming text asked. (
         refl,
         record { book = refl; shown = shown_itself alone shelf.contents.shown },
@@ -151,12 +159,12 @@ module _ (alone : Bool) (site : Site) (e : Exchange) (closes : Bool) (date : ℕ
   }
 
   -- the archive was full
-  full_reply : (count limit : ℕ) (lacked : Bool) (was is : Told) → IsEarlier is.crash
+  full_reply : (count limit : ℕ) (was is : Told) → IsEarlier is.crash
       → StoresOn alone (taken_of e date received) was is (Err (store_fault.Full count limit))
-      → Replies alone site e lacked (Some (Fails (Full count limit))) around was is
-  full_reply count limit lacked was is earlier h =
-      unwritten alone site e lacked (Some (Fails (Full count limit))) around was is earlier h.leaves.0
-      (quiet_by (Err (store_fault.Full count limit)) was is h tt) refl refl
+      → Replies alone site e false (Some (Fails (Full count limit))) around was is
+  full_reply count limit was is earlier h =
+      unwritten alone site e false (Some (Fails (Full count limit))) around was is earlier h.leaves.0
+      (quiet_by (Err (store_fault.Full count limit)) was is h tt) refl refl sufficed
       (stayed_met around.faults_before around.faults_now come.steady) (stayed_met was.faults is.faults h.faults) (λ incoming text asked. (
         asked,
         (
@@ -170,12 +178,12 @@ module _ (alone : Bool) (site : Site) (e : Exchange) (closes : Bool) (date : ℕ
       ))
 
   -- an earlier capture is damaged
-  damaged_reply : (number : ℕ) (kept : List ℕ) (found : Option (List ℕ)) (lacked : Bool) (was is : Told) → IsEarlier is.crash
+  damaged_reply : (number : ℕ) (kept : List ℕ) (found : Option (List ℕ)) (was is : Told) → IsEarlier is.crash
       → StoresOn alone (taken_of e date received) was is (Err (store_fault.Damaged number kept found))
-      → Replies alone site e lacked (Some (Fails (Damaged number kept found))) around was is
-  damaged_reply number kept found lacked was is earlier h =
-      unwritten alone site e lacked (Some (Fails (Damaged number kept found))) around was is earlier h.leaves.0
-      (quiet_by (Err (store_fault.Damaged number kept found)) was is h tt) refl refl
+      → Replies alone site e false (Some (Fails (Damaged number kept found))) around was is
+  damaged_reply number kept found was is earlier h =
+      unwritten alone site e false (Some (Fails (Damaged number kept found))) around was is earlier h.leaves.0
+      (quiet_by (Err (store_fault.Damaged number kept found)) was is h tt) refl refl sufficed
       (stayed_met around.faults_before around.faults_now come.steady) (stayed_met was.faults is.faults h.faults) (λ incoming text asked. (
         asked,
         (
@@ -191,7 +199,7 @@ module _ (alone : Bool) (site : Site) (e : Exchange) (closes : Bool) (date : ℕ
       → Replies alone site e true None around was is
   unkept_reply was is earlier h =
       unwritten alone site e true None around was is earlier h.leaves
-      (quiet_by (Err store_fault.Memory) was is h tt) refl refl
+      (quiet_by (Err store_fault.Memory) was is h tt) refl refl (λ lacking. refl)
       (stayed_met around.faults_before around.faults_now come.steady) (stayed_met was.faults is.faults h.faults) (λ incoming text asked. (
         refl,
         record { book = refl; shown = h.leaves.shown },
@@ -201,10 +209,10 @@ module _ (alone : Bool) (site : Site) (e : Exchange) (closes : Bool) (date : ℕ
   -- ---- the disk
 
   -- the disk failed
-  denied_reply : (lacked : Bool) (was is : Told) → IsConsistent alone is.contents
+  denied_reply : (was is : Told) → IsConsistent alone is.contents
       → StoresOn alone (taken_of e date received) was is (Err store_fault.DiskFault)
-      → Replies alone site e lacked (Some (Fails DiskFault)) around was is
-  denied_reply lacked was is consistent h = record {
+      → Replies alone site e false (Some (Fails DiskFault)) around was is
+  denied_reply was is consistent h = record {
     found = h.leaves.0;
     led = h.leaves.1;
     by = λ incoming text asked. (
@@ -217,11 +225,12 @@ module _ (alone : Bool) (site : Site) (e : Exchange) (closes : Bool) (date : ℕ
       ),
     );
     kept = λ lacking. refl;
+    no_refusal = sufficed;
     dialer = stayed_met around.faults_before around.faults_now come.steady;
     disk = rose_met was.faults is.faults h.faults.1;
     stored = none_stored was.contents is.contents [] refl h.leaves.5;
     images = λ incoming text. images_denied alone site
-        (round_of alone site e incoming (Some (Fails DiskFault)) lacked (traces_of alone site e around h.leaves.0 was is) text) e was is
+        (round_of alone site e incoming (Some (Fails DiskFault)) false (traces_of alone site e around h.leaves.0 was is) text) e was is
         (record {
           deed = refl;
           room = room_in h.leaves.0 was is h.leaves.2;
@@ -268,7 +277,8 @@ module _ (alone : Bool) (site : Site) (e : Exchange) (closes : Bool) (date : ℕ
         consistent = stays_consistent alone site e was is around.faults_now (ap (λ (x : Contents). x.tells) h.leaves.others) consistent;
       },
     );
-    kept = λ lacking. absurd (false≢true lacking);
+    kept = sufficed;
+    no_refusal = λ lacking. refl;
     dialer = stayed_met around.faults_before around.faults_now come.steady;
     disk = stayed_met was.faults is.faults h.faults;
     stored = mine_stored was.contents is.contents receipt.number (length (captures h.leaves.found)) h.leaves.number h.leaves.others;
@@ -302,12 +312,12 @@ module _ (alone : Bool) (site : Site) (e : Exchange) (closes : Bool) (date : ℕ
       })
   by_said ready asks (Ok receipt) (Err memory) was is law earlier same response passes consistent h follows = let bad : ⊥ = cc in absurd bad
   by_said ready asks (Err (store_fault.Full count limit)) result was is law earlier same response passes consistent h follows =
-      refused_comes alone site e (Full count limit) asks closes around result was is same (λ lacked. full_reply count limit lacked was is earlier h) follows
+      refused_comes alone site e (Full count limit) asks closes around result was is same (full_reply count limit was is earlier h) follows
   by_said ready asks (Err store_fault.DiskFault) result was is law earlier same response passes consistent h follows =
-      refused_comes alone site e DiskFault asks closes around result was is same (λ lacked. denied_reply lacked was is consistent h) follows
+      refused_comes alone site e DiskFault asks closes around result was is same (denied_reply was is consistent h) follows
   by_said ready asks (Err (store_fault.Damaged number kept found)) result was is law earlier same response passes consistent h follows =
       refused_comes alone site e (Damaged number kept found) asks closes around result was is same
-      (λ lacked. damaged_reply number kept found lacked was is earlier h) follows
+      (damaged_reply number kept found was is earlier h) follows
   by_said ready asks (Err store_fault.Memory) result was is law earlier same response passes consistent h follows =
       lacking_comes alone site e closes around result was is (unkept_reply was is earlier h) follows
 

@@ -11,7 +11,10 @@ use Rattle.archive_shelf.specs.Openings.{IsEarlier}
 use Rattle.archive_shelf.specs.Queries.{ArePicked, IsFound}
 use Rattle.archive_shelf.specs.Told.{KnowsBook, LooksOn, ReadsOn, Told}
 use Rattle.capture.specs.declared.book.Book.{Book}
+use Rattle.capture.specs.Methods.{asks_for_head}
 use Rattle.capture.specs.declared.memory.Memory.{Memory}
+use Rattle.capture.specs.declared.refusal.Refusal.{Refusal}
+use Rattle.capture.specs.declared.refusal.Refusal.TheVariants.{NoCapture}
 use Rattle.cdx_query.specs.Answers.{AreStarting, IsAnswer}
 use Rattle.cdx_query.specs.Picking.{start_of}
 use Rattle.cdx_query.specs.declared.query.Query.{Query}
@@ -21,11 +24,12 @@ use Rattle.surt_key.specs.Key.{key_of}
 use Rattle.session.specs.steps.Stages.{terms_at}
 use Rattle.session.specs.steps.Answering.{AnswersVisit}
 use Rattle.session.specs.Connection.{Setting}
+use Rattle.session.specs.steps.Declining.{IsRefusing}
 use Rattle.session.specs.steps.Looking.{FindsNearest, FindsAll, FindsAnswer}
-use Rattle.session.specs.Rounds.{Visited, disk_fault}
-use Rattle.session.specs.SiteAnswers.{SiteRequest, SiteReply, IsSiteReply, IsSiteText}
+use Rattle.session.specs.Rounds.{Visited, disk_fault, is_refusal}
+use Rattle.session.specs.SiteAnswers.{SiteRequest, SiteReply, Refuses, IsSiteReply, IsSiteText}
 use Rattle.session.specs.steps.Givens.{Given}
-use Rattle.session.proofs.VisitLaws.{Visits, bring_lacking, one_if, seen_at, visit_answers, undecided}
+use Rattle.session.proofs.VisitLaws.{Visits, bring_lacking, one_if, seen_at, visit_answers, visit_refuses, undecided}
 
 -- the entries that are shown know the book that was seen before
 knows_before : (alone : Bool) (was is : Told) → LooksOn alone was is → KnowsBook alone is.contents → IsTrue was.contents.tells
@@ -53,13 +57,24 @@ found_visits alone setting q reply fault was mid is h knows k met by = record {
 pub found_answers : (alone : Bool) (setting : Setting) (q : SiteRequest) (reply : SiteReply) (closes fault : Bool)
     (result : Result Given Memory) (was mid is : Told) → IsEarlier is.crash
     → LooksOn alone was mid → KnowsBook alone mid.contents → ReadsOn alone fault mid is → disk_fault (Visited q reply) ≡ one_if fault
+    → is_refusal (Visited q reply) ≡ false
     → ((faults : ℕ) → IsSiteReply (terms_at alone setting was) q reply (seen_at mid.contents.shown faults was is))
     → IfOk result (λ answer. IsSiteText (terms_at alone setting was) q reply closes answer.text) → IfOk result (λ answer. answer.closes ≡ closes)
     → AnswersVisit alone setting q closes result was is
-found_answers alone setting q reply closes fault result was mid is earlier h knows k met by text closed incoming then now answers links faults closing asked known =
+found_answers alone setting q reply closes fault result was mid is earlier h knows k met unrefused by text closed incoming then now answers links faults closing asked known =
     visit_answers alone setting q reply mid.contents.shown closes result was is incoming then now answers links faults earlier
     (found_visits alone setting q reply fault was mid is h knows k met by)
-    text closed closing asked known
+    unrefused text closed closing asked known
+
+-- or refused
+pub found_refuses : (alone : Bool) (setting : Setting) (q : SiteRequest) (refusal : Refusal) (asks closes fault : Bool)
+    (result : Result Given Memory) (was mid is : Told) → IsEarlier is.crash
+    → LooksOn alone was mid → KnowsBook alone mid.contents → ReadsOn alone fault mid is → disk_fault (Visited q (Refuses refusal)) ≡ one_if fault
+    → ((faults : ℕ) → IsSiteReply (terms_at alone setting was) q (Refuses refusal) (seen_at mid.contents.shown faults was is))
+    → asks ≡ asks_for_head q.message.head.method → IsRefusing refusal asks closes result → AnswersVisit alone setting q closes result was is
+found_refuses alone setting q refusal asks closes fault result was mid is earlier h knows k met by same refusing =
+    visit_refuses alone setting q refusal mid.contents.shown asks closes result was is earlier
+    (found_visits alone setting q (Refuses refusal) fault was mid is h knows k met by) same refusing
 
 pub found_lacking : (alone : Bool) (setting : Setting) (q : SiteRequest) (closes : Bool) (memory : Memory) (was mid is : Told) → IsEarlier is.crash
     → LooksOn alone was mid → KnowsBook alone mid.contents → ReadsOn alone false mid is → AnswersVisit alone setting q closes (Err memory) was is
@@ -75,12 +90,20 @@ found_lacking_by alone setting q closes (Err memory) was mid is earlier h knows 
 -- by a look alone
 pub looked_answers : (alone : Bool) (setting : Setting) (q : SiteRequest) (reply : SiteReply) (closes : Bool)
     (result : Result Given Memory) (was is : Told) → IsEarlier is.crash → LooksOn alone was is
-    → KnowsBook alone is.contents → disk_fault (Visited q reply) ≡ 0
+    → KnowsBook alone is.contents → disk_fault (Visited q reply) ≡ 0 → is_refusal (Visited q reply) ≡ false
     → ((faults : ℕ) → IsSiteReply (terms_at alone setting was) q reply (seen_at is.contents.shown faults was is))
     → IfOk result (λ answer. IsSiteText (terms_at alone setting was) q reply closes answer.text) → IfOk result (λ answer. answer.closes ≡ closes)
     → AnswersVisit alone setting q closes result was is
-looked_answers alone setting q reply closes result was is earlier h knows none by text closed =
-    found_answers alone setting q reply closes false result was is is earlier h knows (reads_itself alone is) none by text closed
+looked_answers alone setting q reply closes result was is earlier h knows none unrefused by text closed =
+    found_answers alone setting q reply closes false result was is is earlier h knows (reads_itself alone is) none unrefused by text closed
+
+-- that there is no capture
+pub none_looked : (alone : Bool) (setting : Setting) (q : SiteRequest) (asks closes : Bool)
+    (result : Result Given Memory) (was is : Told) → IsEarlier is.crash → LooksOn alone was is → KnowsBook alone is.contents
+    → ((faults : ℕ) → IsSiteReply (terms_at alone setting was) q (Refuses NoCapture) (seen_at is.contents.shown faults was is))
+    → asks ≡ asks_for_head q.message.head.method → IsRefusing NoCapture asks closes result → AnswersVisit alone setting q closes result was is
+none_looked alone setting q asks closes result was is earlier h knows by same refusing =
+    found_refuses alone setting q NoCapture asks closes false result was is is earlier h knows (reads_itself alone is) refl by same refusing
 
 -- there was no memory for a look, or behind it
 pub look_lacking : (alone : Bool) (setting : Setting) (q : SiteRequest) (closes : Bool) (memory : Memory) (was is : Told) → IsEarlier is.crash

@@ -24,7 +24,7 @@ use Rattle.session.specs.declared.served.Served.{Served}
 use Rattle.session.specs.declared.served.Served.TheVariants.{Done, ClientBroke, ClientEndedEarly, ClientRefused, WantOfMemory}
 use Rattle.session.proofs.CourseLaws.{part_behind}
 use Rattle.session.proofs.EndingLaws.{last_whole, last_part, view_itself}
-use Rattle.session.proofs.GainLaws.{gained_none, none_met}
+use Rattle.session.proofs.GainLaws.{gained_none, none_met, sufficed}
 use Rattle.session.proofs.SayLaws.{says_itself, says_then}
 
 -- nothing was asked, and this is seen of the archive
@@ -86,6 +86,7 @@ lacking_lawful : (terms : Terms) (served : ℕ) (wire interim : List ℕ) (view 
 lacking_lawful terms served wire interim view known = record {
   decided = (refl, record { book = refl; shown = shown_itself terms.alone view.shown }, inl (refl, refl));
   kept = λ lacking. refl;
+  no_refusal = λ lacking. refl;
   dialer = none_met view.dialer_faults;
   disk = none_met view.disk_faults;
   interim_is = elim known [ inl is ↦ inl is | inr none ↦ inr (refl, none) ];
@@ -151,6 +152,7 @@ refusal_lawful : (terms : Terms) (served : ℕ) (head : Option RequestHead) (ref
 refusal_lawful terms served head refusal wire interim view is known = record {
   decided = (is, record { times = refl; transcripts = refl; untouched = record { book = refl; shown = shown_itself terms.alone view.shown } });
   kept = λ lacking. refl;
+  no_refusal = sufficed;
   dialer = none_met view.dialer_faults;
   disk = none_met view.disk_faults;
   interim_is = inl known;
@@ -190,5 +192,4 @@ refused_bytes alone setting head refusal wire interim from to now result itself 
   })
   by_result Done h = absurd h
   by_result ClientEndedEarly h = absurd h
-  by_result WantOfMemory tries =
-      gave_up alone setting wire interim from to now itself (inl known) taken tries
+  by_result WantOfMemory h = absurd h

@@ -26,15 +26,15 @@ use Rattle.replay_url.specs.declared.form.Form.TheVariants.{Number, Ship}
 use Rattle.session.specs.steps.Stages.{terms_at}
 use Rattle.session.specs.steps.Answering.{Incoming, MakesRound, IsAnswered, Answers, AnswersVisit}
 use Rattle.session.specs.Connection.{Setting}
-use Rattle.session.specs.steps.Declining.{Declines, DeclinesPiece, refusal_by_bring}
+use Rattle.session.specs.steps.Declining.{Declines, DeclinesPiece, IsRefusing, refusal_by_bring}
 use Rattle.session.specs.Requests.{IsAsked, IsInterim, closes_after}
-use Rattle.session.specs.Rounds.{Round, Visited, IsRound, disk_fault, Undecided, is_from_shown}
+use Rattle.session.specs.Rounds.{Round, Visited, IsRound, disk_fault, Undecided, is_from_shown, is_refusal}
 use Rattle.session.specs.SiteAnswers.{SiteRequest, SiteReply, Refuses, HasNoMore, Ships, Asks, IsSiteReply, IsSiteText, nothing_text, Replays}
 use Rattle.session.specs.Traces.{Terms, View, CountsMet}
 use Rattle.capture.specs.declared.captured.Brought.{Brought}
 use Rattle.capture.specs.declared.memory.Memory.{Memory}
 use Rattle.session.specs.steps.Givens.{Given}
-use Rattle.session.proofs.GainLaws.{none_met}
+use Rattle.session.proofs.GainLaws.{none_met, sufficed}
 use Rattle.session.proofs.StoreLaws.{images_unwritten}
 
 -- what was seen when a reply was decided: the book that is seen now, and these entries
@@ -148,6 +148,7 @@ visit_answered alone setting incoming q reply shown answer closes was is then no
     dialer = none_met faults;
     disk = counts alone setting q reply shown was is h;
     kept = λ lacking. refl;
+    no_refusal = sufficed;
     interim_is = inl known;
     text_is = subst (λ (b : Bool). IsSiteText (terms_at alone setting was) q reply b answer.text) closing text;
   });
@@ -158,16 +159,17 @@ visit_answered alone setting incoming q reply shown answer closes was is then no
 pub visit_lacked : (alone : Bool) (setting : Setting) (incoming : Incoming) (q : SiteRequest) (reply : SiteReply) (shown : List Facts)
     (was is : Told) (then now : Heard) (answers : List ℕ) (links : Links Transcript) (faults : ℕ)
     → IsEarlier is.crash → IsAsked setting.site incoming.wire q.message (ToSite q.address) → IsInterim setting.site incoming.wire incoming.interim
-    → Visits alone setting q reply shown was is
+    → Visits alone setting q reply shown was is → is_refusal (Visited q reply) ≡ false
     → MakesRound alone setting incoming true memory_text
     (record { heard = then; answers = answers; links = links; dialer_faults = faults; shelf = was })
     (record { heard = now; answers = answers; links = links; dialer_faults = faults; shelf = is })
-visit_lacked alone setting incoming q reply shown was is then now answers links faults earlier asked known h =
+visit_lacked alone setting incoming q reply shown was is then now answers links faults earlier asked known h unrefused =
     visited alone setting incoming q true reply shown memory_text was is then now answers links faults earlier asked known h (record {
       decided = (asked, record { times = refl; transcripts = refl; untouched = record { book = refl; shown = h.later } }, h.by faults);
       dialer = none_met faults;
       disk = counts alone setting q reply shown was is h;
       kept = λ lacking. refl;
+      no_refusal = λ lacking. unrefused;
       interim_is = inl known;
       text_is = refl;
     })
@@ -209,6 +211,7 @@ undecided alone setting incoming shown was is then now answers links faults earl
       dialer = none_met faults;
       disk = stayed_met was.faults is.faults reads.faults;
       kept = λ lacking. refl;
+      no_refusal = λ lacking. refl;
       interim_is = inl known;
       text_is = refl;
     };
@@ -228,17 +231,27 @@ undecided alone setting incoming shown was is then now answers links faults earl
 -- the one or the other
 pub visit_answers : (alone : Bool) (setting : Setting) (q : SiteRequest) (reply : SiteReply) (shown : List Facts) (closes : Bool)
     (result : Result Given Memory) (was is : Told) (incoming : Incoming) (then now : Heard) (answers : List ℕ) (links : Links Transcript) (faults : ℕ)
-    → IsEarlier is.crash → Visits alone setting q reply shown was is
+    → IsEarlier is.crash → Visits alone setting q reply shown was is → is_refusal (Visited q reply) ≡ false
     → IfOk result (λ answer. IsSiteText (terms_at alone setting was) q reply closes answer.text) → IfOk result (λ answer. answer.closes ≡ closes)
     → closes ≡ closes_after incoming.served q.message.head
     → IsAsked setting.site incoming.wire q.message (ToSite q.address) → IsInterim setting.site incoming.wire incoming.interim
     → Answers alone setting incoming result
     (record { heard = then; answers = answers; links = links; dialer_faults = faults; shelf = was })
     (record { heard = now; answers = answers; links = links; dialer_faults = faults; shelf = is })
-visit_answers alone setting q reply shown closes (Ok answer) was is incoming then now answers links faults earlier h text closed closing asked known =
+visit_answers alone setting q reply shown closes (Ok answer) was is incoming then now answers links faults earlier h unrefused text closed closing asked known =
     visit_answered alone setting incoming q reply shown answer closes was is then now answers links faults earlier closing asked known h closed text
-visit_answers alone setting q reply shown closes (Err memory) was is incoming then now answers links faults earlier h text closed closing asked known =
-    visit_lacked alone setting incoming q reply shown was is then now answers links faults earlier asked known h
+visit_answers alone setting q reply shown closes (Err memory) was is incoming then now answers links faults earlier h unrefused text closed closing asked known =
+    visit_lacked alone setting incoming q reply shown was is then now answers links faults earlier asked known h unrefused
+
+-- a refusal, for which no memory is needed
+pub visit_refuses : (alone : Bool) (setting : Setting) (q : SiteRequest) (refusal : Refusal) (shown : List Facts) (asks closes : Bool)
+    (result : Result Given Memory) (was is : Told) → IsEarlier is.crash → Visits alone setting q (Refuses refusal) shown was is
+    → asks ≡ asks_for_head q.message.head.method → IsRefusing refusal asks closes result → AnswersVisit alone setting q closes result was is
+visit_refuses alone setting q refusal shown asks closes result was is earlier h same refusing =
+    subst (λ (r : Result Given Memory). AnswersVisit alone setting q closes r was is) (sym refusing)
+    (λ incoming then now answers links faults closing asked known. visit_answered alone setting incoming q (Refuses refusal) shown
+    (record { text = refusal_text refusal asks closes; closes = closes }) closes was is then now answers links faults earlier closing asked known h refl
+    (ap (λ (b : Bool). refusal_text refusal b closes) same))
 
 -- ---- the shelf wasn't called
 
@@ -256,12 +269,6 @@ at_once alone setting q reply shelf none unshown by = record {
   knows = λ tells from. let bad : ⊥ = cc (unshown, from) in absurd bad;
   by = by;
 }
-
--- the text of a refusal
-pub refusal_is : (result : Result Given Memory) (refusal : Refusal) (asks head closes : Bool) → asks ≡ head
-    → IfOk result (λ answer. answer.text ≡ refusal_text refusal asks closes) → IfOk result (λ answer. answer.text ≡ refusal_text refusal head closes)
-refusal_is (Ok answer) refusal asks head closes e h = h ∙ ap (λ (b : Bool). refusal_text refusal b closes) e
-refusal_is (Err memory) refusal asks head closes e h = tt
 
 -- there was no memory to begin with
 pub lacks_visit : (alone : Bool) (setting : Setting) (shelf : Told) (incoming : Incoming) (then now : Heard)
@@ -314,14 +321,24 @@ piece_shipped terms q number piece is faults disk asks (there, some, known) same
 -- a request that is answered by what was brought
 pub bring_answers : (alone : Bool) (setting : Setting) (q : SiteRequest) (reply : SiteReply) (closes fault : Bool)
     (result : Result Given Memory) (was is : Told) → IsEarlier is.crash → ReadsOn alone fault was is
-    → disk_fault (Visited q reply) ≡ one_if fault → is_from_shown (Visited q reply) ≡ false
+    → disk_fault (Visited q reply) ≡ one_if fault → is_from_shown (Visited q reply) ≡ false → is_refusal (Visited q reply) ≡ false
     → ((faults : ℕ) → IsSiteReply (terms_at alone setting was) q reply (seen_at is.contents.shown faults was is))
     → IfOk result (λ answer. IsSiteText (terms_at alone setting was) q reply closes answer.text) → IfOk result (λ answer. answer.closes ≡ closes)
     → AnswersVisit alone setting q closes result was is
-bring_answers alone setting q reply closes fault result was is earlier h met unshown by text closed incoming then now answers links faults closing asked known =
+bring_answers alone setting q reply closes fault result was is earlier h met unshown unrefused by text closed incoming then now answers links faults closing asked known =
     visit_answers alone setting q reply is.contents.shown closes result was is incoming then now answers links faults earlier
     (brought_visits alone setting q reply fault was is h met unshown by)
-    text closed closing asked known
+    unrefused text closed closing asked known
+
+-- or refused by why it wasn't
+bring_refuses : (alone : Bool) (setting : Setting) (q : SiteRequest) (refusal : Refusal) (asks closes fault : Bool)
+    (result : Result Given Memory) (was is : Told) → IsEarlier is.crash → ReadsOn alone fault was is
+    → disk_fault (Visited q (Refuses refusal)) ≡ one_if fault → is_from_shown (Visited q (Refuses refusal)) ≡ false
+    → ((faults : ℕ) → IsSiteReply (terms_at alone setting was) q (Refuses refusal) (seen_at is.contents.shown faults was is))
+    → asks ≡ asks_for_head q.message.head.method → IsRefusing refusal asks closes result → AnswersVisit alone setting q closes result was is
+bring_refuses alone setting q refusal asks closes fault result was is earlier h met unshown by same refusing =
+    visit_refuses alone setting q refusal is.contents.shown asks closes result was is earlier
+    (brought_visits alone setting q (Refuses refusal) fault was is h met unshown by) same refusing
 
 pub told_damaged : (a b : Bool) (kept : List ℕ) (found : Option (List ℕ)) → a ≡ b → IsDamaged a kept found → IsDamaged b kept found
 told_damaged a b kept found e h = subst (λ (t : Bool). IsDamaged t kept found) e h
@@ -344,20 +361,17 @@ pub unbrought_answers : (alone : Bool) (setting : Setting) (q : SiteRequest) (nu
     → Brings is.contents number (Err fault) → ReadsOn alone (is_bring_fault {T = Brought} (Err fault)) was is
     → Declines (refusal_by_bring number fault) asks closes result → AnswersVisit alone setting q closes result was is
 unbrought_answers alone setting q number (brings.NoSuch count) asks closes result was is earlier asked same h reads declines =
-    bring_answers alone setting q (Refuses (NoSuch number count)) closes false result was is earlier reads refl refl
-    (λ faults. (inl (asked, subst (λ (n : ℕ). n ≤ number) h.0 h.1), h.2, h.0))
-    (refusal_is result (NoSuch number count) asks (asks_for_head q.message.head.method) closes same declines.text_is) declines.closes_is
+    bring_refuses alone setting q (NoSuch number count) asks closes false result was is earlier reads refl refl
+    (λ faults. (inl (asked, subst (λ (n : ℕ). n ≤ number) h.0 h.1), h.2, h.0)) same declines
 unbrought_answers alone setting q number brings.DiskFault asks closes result was is earlier asked same h reads declines =
-    bring_answers alone setting q (Refuses DiskFault) closes true result was is earlier reads refl refl
-    (λ faults. inl (ForNumber number, number, (asked, refl, h)))
-    (refusal_is result DiskFault asks (asks_for_head q.message.head.method) closes same declines.text_is) declines.closes_is
+    bring_refuses alone setting q DiskFault asks closes true result was is earlier reads refl refl
+    (λ faults. inl (ForNumber number, number, (asked, refl, h))) same declines
 unbrought_answers alone setting q number (brings.Damaged at kept found) asks closes result was is earlier asked same h reads declines =
-    bring_answers alone setting q (Refuses (Damaged at kept found)) closes false result was is earlier reads refl refl
+    bring_refuses alone setting q (Damaged at kept found) asks closes false result was is earlier reads refl refl
     (λ faults. (
       inl (ForNumber number, number, (asked, refl, h.0), h.2),
       told_damaged _ _ kept found (stays_tells alone was.contents is.contents reads.stays) h.3,
-    ))
-    (refusal_is result (Damaged at kept found) asks (asks_for_head q.message.head.method) closes same declines.text_is) declines.closes_is
+    )) same declines
 unbrought_answers alone setting q number brings.Memory asks closes result was is earlier asked same h reads declines =
     lacking_bring alone setting q closes result was is earlier reads declines
 
@@ -374,24 +388,21 @@ unshipped_answers alone setting q number (brings.NoSuch count) asks closes resul
           → AnswersVisit alone setting q closes result was is
       by_test true e text =
           let next : number ≡ count = eqb-true number count e in
-          bring_answers alone setting q (HasNoMore number) closes false result was is earlier reads refl refl
+          bring_answers alone setting q (HasNoMore number) closes false result was is earlier reads refl refl refl
           (λ faults. (asked, next ∙ h.0, h.2)) text closed
       by_test false e refuses =
           let other : number ≢ count = eqb-false number count e in
-          bring_answers alone setting q (Refuses (NoSuch number count)) closes false result was is earlier reads refl refl
-          (λ faults. (inr (asked, omega (arith, h.0, h.1, other)), h.2, h.0))
-          (refusal_is result (NoSuch number count) asks (asks_for_head q.message.head.method) closes same refuses.text_is) closed
+          bring_refuses alone setting q (NoSuch number count) asks closes false result was is earlier reads refl refl
+          (λ faults. (inr (asked, omega (arith, h.0, h.1, other)), h.2, h.0)) same refuses
 unshipped_answers alone setting q number brings.DiskFault asks closes result was is earlier asked same h reads declines closed =
-    bring_answers alone setting q (Refuses DiskFault) closes true result was is earlier reads refl refl
-    (λ faults. inr (number, asked, h))
-    (refusal_is result DiskFault asks (asks_for_head q.message.head.method) closes same declines.text_is) closed
+    bring_refuses alone setting q DiskFault asks closes true result was is earlier reads refl refl
+    (λ faults. inr (number, asked, h)) same declines
 unshipped_answers alone setting q number (brings.Damaged at kept found) asks closes result was is earlier asked same h reads declines closed =
-    bring_answers alone setting q (Refuses (Damaged at kept found)) closes false result was is earlier reads refl refl
+    bring_refuses alone setting q (Damaged at kept found) asks closes false result was is earlier reads refl refl
     (λ faults. (
       inr (subst (λ (n : ℕ). Asks q (Ship n)) (sym h.1) asked, omega (arith, h.0, h.1)),
       told_damaged _ _ kept found (stays_tells alone was.contents is.contents reads.stays) h.2,
-    ))
-    (refusal_is result (Damaged at kept found) asks (asks_for_head q.message.head.method) closes same declines.text_is) closed
+    )) same declines
 unshipped_answers alone setting q number brings.Memory asks closes result was is earlier asked same h reads declines closed =
     lacking_bring alone setting q closes result was is earlier reads declines
 
@@ -404,18 +415,16 @@ pub match_false : (P Q : Type 0) (told test : Bool) → told ≡ test → told �
 match_false P Q told false e f q = q
 match_false P Q told true e f q = let bad : ⊥ = cc in absurd bad
 
--- a request that is refused, or lacks memory, where the shelf wasn't called
+-- a request that is refused where the shelf wasn't called
 pub refusal_answers : (alone : Bool) (setting : Setting) (q : SiteRequest) (refusal : Refusal) (asks closes : Bool)
     (result : Result Given Memory) (shelf : Told) → IsEarlier shelf.crash → asks ≡ asks_for_head q.message.head.method
     → disk_fault (Visited q (Refuses refusal)) ≡ 0 → is_from_shown (Visited q (Refuses refusal)) ≡ false
     → ((faults : ℕ)
     → IsSiteReply (terms_at alone setting shelf) q (Refuses refusal) (seen_at shelf.contents.shown faults shelf shelf))
-    → IfOk result (λ answer. answer.text ≡ refusal_text refusal asks closes) → IfOk result (λ answer. answer.closes ≡ closes)
-    → AnswersVisit alone setting q closes result shelf shelf
-refusal_answers alone setting q refusal asks closes result shelf earlier asks_is none unshown by text closed incoming then now answers links faults closing asked known =
-    visit_answers alone setting q (Refuses refusal) shelf.contents.shown closes result shelf shelf incoming then now answers links faults earlier
-    (at_once alone setting q (Refuses refusal) shelf none unshown by)
-    (refusal_is result refusal asks (asks_for_head q.message.head.method) closes asks_is text) closed closing asked known
+    → IsRefusing refusal asks closes result → AnswersVisit alone setting q closes result shelf shelf
+refusal_answers alone setting q refusal asks closes result shelf earlier same none unshown by refusing =
+    visit_refuses alone setting q refusal shelf.contents.shown asks closes result shelf shelf earlier
+    (at_once alone setting q (Refuses refusal) shelf none unshown by) same refusing
 
 pub lacking_answers : (alone : Bool) (setting : Setting) (q : SiteRequest) (closes : Bool) (memory : Memory) (shelf : Told) → IsEarlier shelf.crash
     → AnswersVisit alone setting q closes (Err memory) shelf shelf

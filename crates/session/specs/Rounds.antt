@@ -46,6 +46,15 @@ closes_outcome served (Exchanged e (Fails refusal)) = closes_after served e.mess
 closes_outcome served (Exchanged e (Passes received payload)) = received.cut || closes_after served e.message.head
 closes_outcome served (Visited q reply) = closes_after served q.message.head
 
+-- ---- refusals
+
+-- whether it refuses the client's bytes, or their request
+abbrev pub is_refusal : Outcome → Bool
+is_refusal (Refused head refusal) = true
+is_refusal (Exchanged e (Fails refusal)) = true
+is_refusal (Visited q (Refuses refusal)) = true
+is_refusal other = false
+
 -- ---- faults
 
 -- a fault of the dialer or of one of its links was met
@@ -96,12 +105,13 @@ numbers_by (Exchanged e (Passes received payload)) before = length (captures bef
 numbers_by (Visited q reply) before = []
 
 -- A lawful round, behind so many requests. The counts of faults rose by what it met, and else stayed; and where memory ran out nothing
--- was stored.
+-- was stored, and nothing was refused: no memory is needed to refuse.
 pub record IsRound (terms : Terms) (served : ℕ) (r : Round) : Type 0 where
   pub decided : IsDecided terms r r.outcome
   pub dialer : CountsMet (origin_fault r.outcome) r.traces.before.dialer_faults r.traces.after.dialer_faults
   pub disk : CountsMet (disk_fault r.outcome) r.traces.before.disk_faults r.traces.after.disk_faults
   pub kept : IsTrue r.lacked → numbers_by r.outcome r.traces.before ≡ []
+  pub no_refusal : IsTrue r.lacked → is_refusal r.outcome ≡ false
   pub interim_is : IsInterim terms.site r.wire r.interim ⊎ (IsTrue r.lacked × (r.interim ≡ []))
   pub text_is : MatchBool r.lacked (r.text ≡ memory_text) (IsTextOf terms served r.outcome r.text)
 

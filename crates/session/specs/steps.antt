@@ -2,6 +2,7 @@ pub mod Answering
 pub mod Declining
 pub mod Endings
 pub mod Exchanging
+pub mod Fronts
 pub mod Gaining
 pub mod Givens
 pub mod Heads

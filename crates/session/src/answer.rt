@@ -3,10 +3,12 @@ ghost use Rattle.std.specs.Prelude.{◌≡◌, ◌++◌, IfOk, IsTrue, MatchResu
 ghost use Rattle.capture.specs.Faults.{CountsFaults};
 ghost use Rattle.outside.specs.Gate.{heard_of};
 ghost use Rattle.session.specs.steps.Givens.{with_body};
+ghost use Rattle.session.specs.steps.Fronts.{front_text};
 ghost use Rattle.session.specs.steps.Wire.{Breaks, Writes};
 
 use crate::saying::{say, say_both};
 use capture::{Bytes, Failed, Memory, put_all};
+use exchange::RefusalText;
 use outside::Link;
 use std::marker::Model;
 
@@ -18,19 +20,41 @@ pub const SHORT: usize = 65_536;
 #[derive(Drop)]
 pub struct Answer {
     /// The text, or the head of a long one.
-    head: Bytes,
+    front: Front,
     /// What is written behind the head.
     body: Option<Bytes>,
     /// Whether the connection closes behind it.
     closes: bool,
 }
 
+/// Where the text of an answer lies, or the head of a long one.
+#[derive(Drop)]
+pub(crate) enum Front {
+    /// In memory of its own.
+    Made(Bytes),
+    /// In the value itself: that of a refusal.
+    Refusing(RefusalText),
+}
+
+impl Front {
+    /// The bytes in place.
+    fn as_slice(&self) -> &[u8]
+        ensures { result.now ≡ front_text self.now }
+    {
+        match self {
+            Front::Made(text) => text.as_slice(),
+            Front::Refusing(text) => text.as_slice(),
+        }
+    }
+}
+
 impl Model for Answer {
     ghost use Rattle.session.specs.steps.Givens.{Given, with_body};
+    ghost use Rattle.session.specs.steps.Fronts.{front_text};
 
     ghost Value = { Given };
 
-    ghost view = { λ a. record { text = with_body a.head a.body; closes = a.closes } };
+    ghost view = { λ a. record { text = with_body (front_text a.front) a.body; closes = a.closes } };
 }
 
 impl Answer {
@@ -39,7 +63,18 @@ impl Answer {
         ensures { result ≡ record { text = text; closes = closes } }
     {
         Answer {
-            head: text,
+            front: Front::Made(text),
+            body: None,
+            closes,
+        }
+    }
+
+    /// The answer that refuses a request by this text. It takes no memory.
+    pub fn refusing(text: RefusalText, closes: bool) -> Answer
+        ensures { result ≡ record { text = text; closes = closes } }
+    {
+        Answer {
+            front: Front::Refusing(text),
             body: None,
             closes,
         }
@@ -50,7 +85,7 @@ impl Answer {
         ensures { result ≡ record { text = with_body head (Some body); closes = closes } }
     {
         Answer {
-            head,
+            front: Front::Made(head),
             body: Some(body),
             closes,
         }
@@ -85,8 +120,8 @@ impl Answer {
         ensures counts { CountsFaults (L.faults client.old) (L.faults client.new) result }
     {
         match &self.body {
-            Some(body) => say_both(client, self.head.as_slice(), body.as_slice()),
-            None => say(client, self.head.as_slice()),
+            Some(body) => say_both(client, self.front.as_slice(), body.as_slice()),
+            None => say(client, self.front.as_slice()),
         }
     }
 }

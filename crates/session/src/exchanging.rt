@@ -73,12 +73,11 @@ pub fn answer_proxied<S: Shelf, N: Dialer, C: Clock>(
 {
     let date = clock.now();
     if LATEST < date {
-        return refused(
-            alloc,
+        return Ok(refused(
             Refusal::ClockRange { now: date },
             asks_for_head(&proxied.message.head),
             proxied.closes,
-        );
+        ));
     }
     let request = match forward_text(alloc, &proxied.message, &proxied.target) {
         Ok(request) => request,
@@ -128,12 +127,7 @@ fn ask<S: Shelf, N: Dialer>(
         sending.request.as_slice(),
     ) {
         Ok(received) => pass_on(alloc, shelf, sending, received),
-        Err(fault) => declined(
-            alloc,
-            why_unfetched(fault),
-            answers_head,
-            sending.proxied.closes,
-        ),
+        Err(fault) => declined(why_unfetched(fault), answers_head, sending.proxied.closes),
     }
 }
 
@@ -227,6 +221,6 @@ fn keep<S: Shelf>(
             let Taken { wire, .. } = taken;
             Ok(ready.given(wire))
         }
-        Err(fault) => declined(alloc, why_unstored(fault), answers_head, closes),
+        Err(fault) => declined(why_unstored(fault), answers_head, closes),
     }
 }

@@ -34,7 +34,7 @@ pub fn visit_query<S: Shelf>(
     let answers_head = asks_for_head(&visit.message.head);
     match read_query(alloc, text) {
         Ok(query) => answer_query(alloc, shelf, visit, &query),
-        Err(QueryFault::BadQuery) => refused(alloc, Refusal::BadQuery, answers_head, visit.closes),
+        Err(QueryFault::BadQuery) => Ok(refused(Refusal::BadQuery, answers_head, visit.closes)),
         Err(QueryFault::Memory) => Err(Memory),
     }
 }

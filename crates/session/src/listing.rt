@@ -41,7 +41,7 @@ pub fn visit_map<S: Shelf>(
     match all_of(alloc, shelf, of) {
         Ok(entries) => {
             if entries.is_empty() {
-                return refused(alloc, Refusal::NoCapture, answers_head, visit.closes);
+                return Ok(refused(Refusal::NoCapture, answers_head, visit.closes));
             }
             list(alloc, visit, of.url.as_slice(), entries.as_slice())
         }

@@ -175,7 +175,7 @@ fn read_body<L: Link>(
             holds_its_head(reader);
             Err(Served::ClientBroke)
         }
-        Came::Refused(fault) => Err(turn_away(alloc, client, reader, fault)),
+        Came::Refused(fault) => Err(turn_away(client, reader, fault)),
     }
 }
 
@@ -220,22 +220,17 @@ fn turn_back<L: Link>(
 {
     let head = match reader.head() {
         Some(head) => head,
-        None => return turn_away(alloc, client, reader, fault),
+        None => return turn_away(client, reader, fault),
     };
     let _aim = match look_at(alloc, client, site, head) {
         Ok(aim) => aim,
         Err(end) => return end,
     };
-    turn_away(alloc, client, reader, fault)
+    turn_away(client, reader, fault)
 }
 
 /// Answers bytes that are no message; a head that came was looked at, and what it asks for was written.
-fn turn_away<L: Link>(
-    alloc: Global,
-    client: &mut L,
-    reader: &RequestReader,
-    fault: WireFault,
-) -> Served
+fn turn_away<L: Link>(client: &mut L, reader: &RequestReader, fault: WireFault) -> Served
     requires no_fault { L.faults client.old ≡ 0 }
     requires failed { reader.now.standing ≡ HasFailed fault }
     requires faulty { HasFault Requests fault reader.now.stream }
@@ -248,10 +243,10 @@ fn turn_away<L: Link>(
 {
     let answers_head = is_for_head(reader);
     match fault {
-        WireFault::Malformed => refuse(alloc, client, Refusal::Malformed, answers_head),
-        WireFault::HeadTooLong => refuse(alloc, client, Refusal::HeadTooLong, answers_head),
-        WireFault::BodyTooLong => refuse(alloc, client, Refusal::BodyTooLong, answers_head),
-        WireFault::CodingRefused => refuse(alloc, client, Refusal::CodingRefused, answers_head),
+        WireFault::Malformed => refuse(client, Refusal::Malformed, answers_head),
+        WireFault::HeadTooLong => refuse(client, Refusal::HeadTooLong, answers_head),
+        WireFault::BodyTooLong => refuse(client, Refusal::BodyTooLong, answers_head),
+        WireFault::CodingRefused => refuse(client, Refusal::CodingRefused, answers_head),
         WireFault::EndedEarly => unreachable!(),
         WireFault::Memory => give_up(client),
     }
@@ -296,7 +291,7 @@ fn look_at<L: Link>(
 {
     let aim = match aim_of(alloc, head, site) {
         Ok(aim) => aim,
-        Err(fault) => return Err(refuse_aim(alloc, client, fault, asks_for_head(head))),
+        Err(fault) => return Err(refuse_aim(client, fault, asks_for_head(head))),
     };
     match go_ahead(client, asks_to_go_on(head)) {
         Ok(()) => Ok(aim),
@@ -328,7 +323,7 @@ fn continue_text() -> &'static [u8]
 }
 
 /// Refuses a head that goes nowhere.
-fn refuse_aim<L: Link>(alloc: Global, client: &mut L, fault: AimFault, answers_head: bool) -> Served
+fn refuse_aim<L: Link>(client: &mut L, fault: AimFault, answers_head: bool) -> Served
     requires { L.faults client.old ≡ 0 }
     ensures ends { IsTrue L.tells → RefusesAim fault answers_head
         (heard_of (L.traffic client.old) (L.faults client.old)) (heard_of (L.traffic client.new) (L.faults client.new)) result }
@@ -336,25 +331,22 @@ fn refuse_aim<L: Link>(alloc: Global, client: &mut L, fault: AimFault, answers_h
     ensures broke { result ≡ Served.ClientBroke → Rose (L.faults client.old) (L.faults client.new) }
 {
     match fault {
-        AimFault::ConnectRefused => refuse(alloc, client, Refusal::ConnectRefused, answers_head),
-        AimFault::SecureRefused => refuse(alloc, client, Refusal::SecureRefused, answers_head),
-        AimFault::TargetRefused => refuse(alloc, client, Refusal::TargetRefused, answers_head),
+        AimFault::ConnectRefused => refuse(client, Refusal::ConnectRefused, answers_head),
+        AimFault::SecureRefused => refuse(client, Refusal::SecureRefused, answers_head),
+        AimFault::TargetRefused => refuse(client, Refusal::TargetRefused, answers_head),
         AimFault::Memory => give_up(client),
     }
 }
 
 /// Refuses a client's bytes, which closes the connection.
-fn refuse<L: Link>(alloc: Global, client: &mut L, refusal: Refusal, answers_head: bool) -> Served
+fn refuse<L: Link>(client: &mut L, refusal: Refusal, answers_head: bool) -> Served
     requires { L.faults client.old ≡ 0 }
     ensures ends { IsTrue L.tells → EndsRefusal refusal (text_of_refusal refusal answers_head true)
         (heard_of (L.traffic client.old) (L.faults client.old)) (heard_of (L.traffic client.new) (L.faults client.new)) result }
     ensures later { L.faults client.old ≤ L.faults client.new }
     ensures broke { result ≡ Served.ClientBroke → Rose (L.faults client.old) (L.faults client.new) }
 {
-    let text = match refusal_text(alloc, &refusal, answers_head, true) {
-        Ok(text) => text,
-        Err(Memory) => return give_up(client),
-    };
+    let text = refusal_text(&refusal, answers_head, true);
     match say(client, text.as_slice()) {
         Ok(()) => Served::ClientRefused(refusal),
         Err(Failed) => Served::ClientBroke,

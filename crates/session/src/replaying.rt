@@ -36,12 +36,7 @@ pub fn replay_number<S: Shelf>(
     let answers_head = asks_for_head(&visit.message.head);
     match shelf.bring(alloc, number) {
         Ok(brought) => replay(alloc, visit, &brought, true),
-        Err(fault) => declined(
-            alloc,
-            why_unbrought(number, fault),
-            answers_head,
-            visit.closes,
-        ),
+        Err(fault) => declined(why_unbrought(number, fault), answers_head, visit.closes),
     }
 }
 
@@ -64,12 +59,7 @@ pub fn replay_found<S: Shelf>(
     let answers_head = asks_for_head(&visit.message.head);
     match shelf.bring(alloc, number) {
         Ok(brought) => replay(alloc, visit, &brought, sought.raw),
-        Err(fault) => declined(
-            alloc,
-            why_unbrought(number, fault),
-            answers_head,
-            visit.closes,
-        ),
+        Err(fault) => declined(why_unbrought(number, fault), answers_head, visit.closes),
     }
 }
 

@@ -45,12 +45,11 @@ pub fn visit_gate<S: Shelf>(
 {
     match gate_time(visit.message.head.fields.as_slice()) {
         Ok(time) => redirect_to_nearest(alloc, shelf, visit, of, time),
-        Err(NotATime) => refused(
-            alloc,
+        Err(NotATime) => Ok(refused(
             Refusal::BadAcceptDatetime,
             asks_for_head(&visit.message.head),
             visit.closes,
-        ),
+        )),
     }
 }
 
@@ -73,7 +72,7 @@ fn redirect_to_nearest<S: Shelf>(
     let answers_head = asks_for_head(&visit.message.head);
     match seek(alloc, shelf, of, time) {
         Ok(Some(entry)) => lead_to(alloc, visit, of.url.as_slice(), &entry, false, true),
-        Ok(None) => refused(alloc, Refusal::NoCapture, answers_head, visit.closes),
+        Ok(None) => Ok(refused(Refusal::NoCapture, answers_head, visit.closes)),
         Err(Memory) => Err(Memory),
     }
 }
@@ -108,7 +107,7 @@ pub fn visit_memento<S: Shelf>(
                 false,
             )
         }
-        Ok(None) => refused(alloc, Refusal::NoCapture, answers_head, visit.closes),
+        Ok(None) => Ok(refused(Refusal::NoCapture, answers_head, visit.closes)),
         Err(Memory) => Err(Memory),
     }
 }

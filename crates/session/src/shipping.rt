@@ -51,7 +51,7 @@ fn unshipped(
     if is_next(number, fault) {
         return nothing(alloc, closes);
     }
-    declined(alloc, why_unbrought(number, fault), answers_head, closes)
+    declined(why_unbrought(number, fault), answers_head, closes)
 }
 
 /// Whether the piece is that of the next capture, which is still to come.

@@ -30,12 +30,12 @@ pub fn answer_visit<S: Shelf>(alloc: Global, shelf: &mut S, visit: Visit) -> Res
 {
     let answers_head = asks_for_head(&visit.message.head);
     if !serves(visit.message) {
-        return refused(alloc, Refusal::MethodRefused, answers_head, visit.closes);
+        return Ok(refused(Refusal::MethodRefused, answers_head, visit.closes));
     }
     match read_keyed_form(alloc, visit.address) {
         Ok(form) => visit_form(alloc, shelf, visit, &form),
-        Err(FormFault::NotAForm) => refused(alloc, Refusal::NotAForm, answers_head, visit.closes),
-        Err(FormFault::BadTime) => refused(alloc, Refusal::BadTime, answers_head, visit.closes),
+        Err(FormFault::NotAForm) => Ok(refused(Refusal::NotAForm, answers_head, visit.closes)),
+        Err(FormFault::BadTime) => Ok(refused(Refusal::BadTime, answers_head, visit.closes)),
         Err(FormFault::Memory) => Err(Memory),
     }
 }

@@ -1,5 +1,5 @@
 -- How a request is declined, by the fault that was met.
-use Rattle.std.specs.Prelude.{◌≡◌, ◌==◌, ℕ, Bool, false, IsErr, IfOk, MatchBool, Option, Some, None, Result}
+use Rattle.std.specs.Prelude.{◌≡◌, ◌==◌, ℕ, Bool, false, IsErr, IfOk, MatchBool, Option, Some, None, Result, Ok}
 use Rattle.archive_shelf.specs.declared.fault.BringFault.{BringFault}
 use Rattle.archive_shelf.specs.declared.fault.BringFault.TheVariants as brings
 use Rattle.archive_shelf.specs.declared.fault.StoreFault.{StoreFault}
@@ -48,14 +48,14 @@ is_next number brings.Memory = false
 
 -- ---- the answer
 
--- the answer is this refusal, or there was no memory for one
-pub record Refuses (refusal : Refusal) (answers_head closes : Bool) (result : Result Given Memory) : Type 0 where
-  pub text_is : IfOk result (λ answer. answer.text ≡ refusal_text refusal answers_head closes)
-  pub closes_is : IfOk result (λ answer. answer.closes ≡ closes)
+-- this refusal, for which no memory is needed
+abbrev pub IsRefusing : Refusal → Bool → Bool → Result Given Memory → Type 0
+IsRefusing refusal answers_head closes result =
+    result ≡ Ok (record { text = refusal_text refusal answers_head closes; closes = closes })
 
 -- by why
 abbrev pub Declines : Option Refusal → Bool → Bool → Result Given Memory → Type 0
-Declines (Some refusal) answers_head closes result = Refuses refusal answers_head closes result
+Declines (Some refusal) answers_head closes result = IsRefusing refusal answers_head closes result
 Declines None answers_head closes result = IsErr result
 
 -- the answer to a request for a piece: there is nothing as yet, or the refusal

@@ -1,7 +1,6 @@
 -- What goes to a client, and what refusing its bytes leaves.
 use Rattle.std.specs.Prelude.{◌≡◌, ◌≢◌, ◌⊎◌, List, ◌++◌, ℕ}
 use Rattle.capture.specs.declared.refusal.Refusal.{Refusal}
-use Rattle.exchange.specs.Refusals.{memory_text}
 use Rattle.exchange.specs.Writing.{GrowsByProperFront}
 use Rattle.outside.specs.Calls.{one_more}
 use Rattle.outside.specs.declared.gate.Heard.{Heard}
@@ -32,10 +31,10 @@ pub record Breaks (text : List ℕ) (then now : Heard) : Type 0 where
 abbrev pub Tries : List ℕ → Heard → Heard → Type 0
 Tries text then now = Writes text then now ⊎ Breaks text then now
 
--- What a refusal of bytes leaves, by how the connection ends with it. There may be no memory for its text.
+-- What a refusal of bytes leaves, by how the connection ends with it. No memory is needed for its text.
 abbrev pub EndsRefusal : Refusal → List ℕ → Heard → Heard → Served → Type 0
 EndsRefusal refusal text then now (ClientRefused told) = (told ≡ refusal) × Writes text then now
 EndsRefusal refusal text then now ClientBroke = Breaks text then now
 EndsRefusal refusal text then now Done = ⊥
 EndsRefusal refusal text then now ClientEndedEarly = ⊥
-EndsRefusal refusal text then now WantOfMemory = Tries memory_text then now
+EndsRefusal refusal text then now WantOfMemory = ⊥

@@ -1,5 +1,5 @@
 -- What clock, origin and shelf left answers the request.
-use Rattle.std.proofs.Common.{[], ◌∷◌, Err, refl, arith, None}
+use Rattle.std.proofs.Common.{[], ◌∷◌, Ok, Err, refl, ap, arith, None}
 use Rattle.archive_shelf.proofs.CallLaws.{goes_on_itself}
 use Rattle.capture.specs.declared.refusal.Refusal.TheVariants.{ClockRange}
 use Rattle.session.specs.steps.Exchanging.{exchange_of}
@@ -12,16 +12,16 @@ returns-then-date-gt-LATEST-clause-answers g c t site then now =
     let date = c.now-date.result in
     let faults = g.N.Dialer.faults c.args.dialer.now in
     let e = exchange_of c.args.proxied in
-    comes_answers g.S.Finder.alone (record { site = site; clock_tells = g.C.Clock.tells }) e c.args.proxied.closes c.refused.result (date ∷ []) []
+    comes_answers g.S.Finder.alone (record { site = site; clock_tells = g.C.Clock.tells }) e c.args.proxied.closes (Ok c.refused.result) (date ∷ []) []
     (record { heard = then; answers = g.C.Clock.answers c.args.clock.now; links = g.N.Dialer.links c.args.dialer.now; dialer_faults = faults; shelf = g.S.Finder.told c.args.shelf.now })
     (record { heard = now; answers = g.C.Clock.answers c.now-date.new.self; links = g.N.Dialer.links c.args.dialer.now; dialer_faults = faults; shelf = g.S.Finder.told c.args.shelf.now })
     c.now-date.ensures.answers (same_log (g.N.Dialer.links c.args.dialer.now) (g.N.Dialer.links c.args.dialer.now) refl)
-    (refused_comes g.S.Finder.alone site e (ClockRange date) c.asks_for_head.result c.args.proxied.closes (clock_alone date faults) c.refused.result (g.S.Finder.told c.args.shelf.now) (g.S.Finder.told c.args.shelf.now)
+    (refused_comes g.S.Finder.alone site e (ClockRange date) c.asks_for_head.result c.args.proxied.closes (clock_alone date faults) (Ok c.refused.result) (g.S.Finder.told c.args.shelf.now) (g.S.Finder.told c.args.shelf.now)
     c.asks_for_head.ensures
-    (λ lacked. past_the_clock g.S.Finder.alone site e lacked date faults (g.S.Finder.told c.args.shelf.now)
+    (past_the_clock g.S.Finder.alone site e date faults (g.S.Finder.told c.args.shelf.now)
     (g.met.S.Finder.earlier c.args.shelf.now)
     (λ within. omega (arith, c.if-date-gt-LATEST.true, within)))
-    (record { text_is = c.refused.ensures.text; closes_is = c.refused.ensures.closes }))
+    (ap Ok c.refused.ensures.value))
 
 pub returns-in-Err-clause-answers : goal.returns-in-Err-clause-answers
 returns-in-Err-clause-answers g c t site then now =

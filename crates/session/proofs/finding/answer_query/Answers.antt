@@ -14,7 +14,7 @@ returns-in-Ok-clause-answers g c clock_tells =
     looked_answers g.S.Finder.alone (record { site = c.args.visit.site.now; clock_tells = clock_tells })
     (record { message = c.args.visit.message.now; address = c.args.visit.address.now })
     (Finds c.args.query.now c.in-Ok.text) c.args.visit.closes c.found.result (g.S.Finder.told c.args.shelf.now) (g.S.Finder.told c.look_up.new.shelf)
-    (g.met.S.Finder.earlier c.look_up.new.shelf) c.look_up.ensures.looks there.knows refl
+    (g.met.S.Finder.earlier c.look_up.new.shelf) c.look_up.ensures.looks there.knows refl refl
     (λ faults. (c.requires.asks.0, c.requires.asks.1, c.requires.asks.2, there.answers))
     (rw c.media_type.ensures at c.found.ensures.text) c.found.ensures.closes
 

@@ -3,6 +3,7 @@ use Rattle.std.proofs.Common.{false, refl, ◌∙◌}
 use Rattle.archive_shelf.proofs.CallLaws.{read_goes_on, same_tells, stays_tells}
 use Rattle.replay_url.specs.Questions.{ForNearest, by_memento}
 use Rattle.session.specs.SiteAnswers.{Replays}
+use Rattle.session.specs.steps.Stages.{terms_at}
 use Rattle.session.proofs.FoundLaws.{found_replayed, found_unbrought}
 use Rattle.session.proofs.LookLaws.{found_answers}
 use Rattle.session.proofs.replaying.replay_found.Goals as goal
@@ -13,8 +14,8 @@ returns-in-Ok-clause-answers g c clock_tells was looks =
     (record { message = c.args.visit.message.now; address = c.args.visit.address.now })
     (Replays (ForNearest (by_memento c.args.sought.time c.args.sought.digits c.args.sought.raw c.args.sought.of.now.url)) c.in-Ok.brought) c.args.visit.closes false c.replay.result (g.S.Finder.told was) (g.S.Finder.told c.args.shelf.now) (g.S.Finder.told c.bring.new.self)
     (g.met.S.Finder.earlier c.bring.new.self) looks c.requires.found.knows
-    c.in-Ok.ensures.reads refl
-    (λ faults. found_replayed _ g.S.Finder.alone (record { message = c.args.visit.message.now; address = c.args.visit.address.now }) (by_memento c.args.sought.time c.args.sought.digits c.args.sought.raw c.args.sought.of.now.url) c.args.number faults
+    c.in-Ok.ensures.reads refl refl
+    (λ faults. found_replayed (terms_at g.S.Finder.alone (record { site = c.args.visit.site.now; clock_tells = clock_tells }) (g.S.Finder.told was)) g.S.Finder.alone (record { message = c.args.visit.message.now; address = c.args.visit.address.now }) (by_memento c.args.sought.time c.args.sought.digits c.args.sought.raw c.args.sought.of.now.url) c.args.number faults
     (g.S.Finder.told was).faults c.in-Ok.brought (g.S.Finder.told c.args.shelf.now).contents (g.S.Finder.told c.bring.new.self).contents
     c.requires.found.reaches c.in-Ok.ensures.reads.stays.shown c.in-Ok.ensures.brings
     (stays_tells g.S.Finder.alone (g.S.Finder.told c.args.shelf.now).contents (g.S.Finder.told c.bring.new.self).contents c.in-Ok.ensures.reads.stays ∙ same_tells (g.S.Finder.told was).contents (g.S.Finder.told c.args.shelf.now).contents looks.looks.others))

@@ -3,6 +3,7 @@ use Rattle.std.proofs.Common.{false, refl}
 use Rattle.archive_shelf.proofs.CallLaws.{read_goes_on, stays_tells}
 use Rattle.replay_url.specs.Questions.{ForNumber}
 use Rattle.session.specs.SiteAnswers.{Replays}
+use Rattle.session.specs.steps.Stages.{terms_at}
 use Rattle.session.proofs.VisitLaws.{bring_answers, number_replayed, unbrought_answers}
 use Rattle.session.proofs.replaying.replay_number.Goals as goal
 
@@ -12,8 +13,8 @@ returns-in-Ok-clause-answers g c clock_tells =
     (record { message = c.args.visit.message.now; address = c.args.visit.address.now })
     (Replays (ForNumber c.args.number) c.in-Ok.brought) c.args.visit.closes false c.replay.result (g.S.Finder.told c.args.shelf.now) (g.S.Finder.told c.bring.new.self)
     (g.met.S.Finder.earlier c.bring.new.self)
-    c.in-Ok.ensures.reads refl refl
-    (λ faults. number_replayed _ (record { message = c.args.visit.message.now; address = c.args.visit.address.now }) c.args.number c.in-Ok.brought (g.S.Finder.told c.bring.new.self).contents faults
+    c.in-Ok.ensures.reads refl refl refl
+    (λ faults. number_replayed (terms_at g.S.Finder.alone (record { site = c.args.visit.site.now; clock_tells = clock_tells }) (g.S.Finder.told c.args.shelf.now)) (record { message = c.args.visit.message.now; address = c.args.visit.address.now }) c.args.number c.in-Ok.brought (g.S.Finder.told c.bring.new.self).contents faults
     (g.S.Finder.told c.args.shelf.now).faults c.requires.asks c.in-Ok.ensures.brings
     (stays_tells g.S.Finder.alone (g.S.Finder.told c.args.shelf.now).contents (g.S.Finder.told c.bring.new.self).contents c.in-Ok.ensures.reads.stays))
     c.replay.ensures.text c.replay.ensures.closes

@@ -1,13 +1,11 @@
 -- The capture that an address leads to or names, or that there is none.
-use Rattle.std.proofs.Common.{Some, refl}
+use Rattle.std.proofs.Common.{Ok, Some, refl, ap}
 use Rattle.archive_shelf.proofs.CallLaws.{goes_on_both, looked_goes_on}
-use Rattle.capture.specs.declared.refusal.Refusal.TheVariants.{NoCapture}
 use Rattle.replay_url.specs.Questions.{by_memento, names_date}
 use Rattle.replay_url.specs.declared.form.Form.TheVariants.{Memento}
-use Rattle.session.specs.SiteAnswers.{Refuses, Redirects}
+use Rattle.session.specs.SiteAnswers.{Redirects}
 use Rattle.session.proofs.FoundLaws.{by_test}
-use Rattle.session.proofs.LookLaws.{look_lacking, looked_answers}
-use Rattle.session.proofs.VisitLaws.{refusal_is}
+use Rattle.session.proofs.LookLaws.{look_lacking, looked_answers, none_looked}
 use Rattle.session.proofs.seeking.visit_memento.Goals as goal
 
 pub replay_found-requires : goal.replay_found-requires
@@ -40,7 +38,7 @@ returns-else-names_date-clause-answers g c clock_tells =
     looked_answers g.S.Finder.alone (record { site = c.args.visit.site.now; clock_tells = clock_tells })
     (record { message = c.args.visit.message.now; address = c.args.visit.address.now })
     (Redirects (by_memento c.args.sought.time c.args.sought.digits c.args.sought.raw c.args.sought.of.now.url) c.in-Ok-Some.entry) c.args.visit.closes c.lead_to.result (g.S.Finder.told c.args.shelf.now) (g.S.Finder.told c.seek.new.shelf)
-    (g.met.S.Finder.earlier c.seek.new.shelf) c.seek.ensures.looks found.knows refl
+    (g.met.S.Finder.earlier c.seek.new.shelf) c.seek.ensures.looks found.knows refl refl
     (λ faults. (
       record { form = Memento c.args.sought.time c.args.sought.digits c.args.sought.raw c.args.sought.of.now.url; asks = c.requires.asks; asked = refl; key = found.key; keyed = found.keyed; time = c.args.sought.time; timed = refl; nearest = found.nearest },
       by_test c.names_date.result (names_date (Some (record { time = c.args.sought.time; digits = c.args.sought.digits })) c.in-Ok-Some.entry.date) c.names_date.ensures c.if-names_date.false,
@@ -50,13 +48,12 @@ returns-else-names_date-clause-answers g c clock_tells =
 pub returns-in-Ok-None-clause-answers : goal.returns-in-Ok-None-clause-answers
 returns-in-Ok-None-clause-answers g c clock_tells =
     let found = rw c.in-Ok-None.field-0-is at c.in-Ok-None.ensures.found in
-    looked_answers g.S.Finder.alone (record { site = c.args.visit.site.now; clock_tells = clock_tells })
+    none_looked g.S.Finder.alone (record { site = c.args.visit.site.now; clock_tells = clock_tells })
     (record { message = c.args.visit.message.now; address = c.args.visit.address.now })
-    (Refuses NoCapture) c.args.visit.closes c.refused.result (g.S.Finder.told c.args.shelf.now) (g.S.Finder.told c.seek.new.shelf)
-    (g.met.S.Finder.earlier c.seek.new.shelf) c.seek.ensures.looks found.knows refl
+    c.asks_for_head-answers_head.result c.args.visit.closes (Ok c.refused.result) (g.S.Finder.told c.args.shelf.now) (g.S.Finder.told c.seek.new.shelf)
+    (g.met.S.Finder.earlier c.seek.new.shelf) c.seek.ensures.looks found.knows
     (λ faults. (Memento c.args.sought.time c.args.sought.digits c.args.sought.raw c.args.sought.of.now.url, c.requires.asks, c.args.sought.of.now.url, refl, found.key, found.keyed, found.nearest))
-    (refusal_is c.refused.result NoCapture c.asks_for_head-answers_head.result _ c.args.visit.closes c.asks_for_head-answers_head.ensures c.refused.ensures.text)
-    c.refused.ensures.closes
+    c.asks_for_head-answers_head.ensures (ap Ok c.refused.ensures.value)
 
 pub returns-in-Err-clause-answers : goal.returns-in-Err-clause-answers
 returns-in-Err-clause-answers g c clock_tells =

@@ -12,7 +12,7 @@ returns-in-Ok-clause-answers g c clock_tells =
     (record { message = c.args.visit.message.now; address = c.args.visit.address.now })
     (Ships c.args.number c.in-Ok.piece) c.args.visit.closes false c.found.result (g.S.Finder.told c.args.shelf.now) (g.S.Finder.told c.piece.new.self)
     (g.met.S.Finder.earlier c.piece.new.self)
-    c.in-Ok.ensures.reads refl refl
+    c.in-Ok.ensures.reads refl refl refl
     (λ faults. piece_shipped (terms_at g.S.Finder.alone (record { site = c.args.visit.site.now; clock_tells = clock_tells }) (g.S.Finder.told c.args.shelf.now)) (record { message = c.args.visit.message.now; address = c.args.visit.address.now }) c.args.number c.in-Ok.piece (g.S.Finder.told c.piece.new.self).contents faults
     (g.S.Finder.told c.args.shelf.now).faults c.requires.asks c.in-Ok.ensures.gives
     (stays_tells g.S.Finder.alone (g.S.Finder.told c.args.shelf.now).contents (g.S.Finder.told c.piece.new.self).contents c.in-Ok.ensures.reads.stays))
