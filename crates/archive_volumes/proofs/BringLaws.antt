@@ -145,7 +145,7 @@ kept_payload texts book number spot kept =
     (subst (λ (h : List ℕ). HasPayload (is_cut_form (form_of stored.kept)) stored.method h (wire_in texts spot) payload) (sym (kept.placed.head kept.read))
     (subst (λ (w : List ℕ). HasPayload (is_cut_form (form_of stored.kept)) stored.method stored.head w payload) (sym (kept.placed.wire kept.read)) has)))
 
-short_take : (n : ℕ) (xs : List ℕ) → length (take n xs) ≤ n
+pub short_take : (n : ℕ) (xs : List ℕ) → length (take n xs) ≤ n
 short_take n xs = omega (arith, length-take n xs)
 
 -- its head tells a framing

@@ -22,7 +22,7 @@ use Rattle.volume_scan.proofs.FoundGroups.{group_found, group_is_found}
 use Rattle.volume_scan.proofs.FoundTexts.{found_writable}
 use Rattle.archive_volumes.proofs.GroupPlaces.{each_ends, ends_in_text}
 use Rattle.archive_volumes.specs.KeptGroups.{EndsGroup, EndsWithin, IsFirstIn, IsFrontOf, IsGroupOf, IsKeptGroup, IsNextAt}
-use Rattle.archive_volumes.specs.Rereading.{BeginWithText}
+use Rattle.archive_volumes.specs.Rereading.{BeginWithText, Reaches}
 use Rattle.archive_volumes.specs.Spots.{ArePlaced, AreWithin, HasGroupAt, part, text_at}
 use Rattle.archive_volumes.specs.declared.kept_group.KeptGroup.{KeptGroup}
 use Rattle.archive_volumes.specs.declared.kept_group.KeptGroup.TheVariants as kept
@@ -43,13 +43,30 @@ module _ (texts : List (List ℕ)) (spots : List Spot) (number : ℕ) (spot : Sp
               (are.each (suc number) next behind.placed).begins,
               ap (λ (k : ℕ). length (text_at texts k)) (behind.same ∙ ap (λ (s : Spot). s.volume) same),
             );
+        reaches = λ other at.
+            let same : spot ≡ other = same_Some spot other (sym here ∙ at) in
+            record {
+              next = λ again there _. omega (arith, behind.is, ap (λ (s : Spot). s.at) (same_Some again next (sym there ∙ behind.placed)));
+              last = λ none. absurd (none next behind.placed (behind.same ∙ ap (λ (s : Spot). s.volume) same));
+            };
       }
 
-  pub within_text : (end : ℕ) → end ≡ length (text_at texts spot.volume) → EndsWithin texts spots number end
-  within_text end is = record {
+  pub within_text : AreWithin texts spots → (end : ℕ) → end ≡ length (text_at texts spot.volume) → EndsWithin texts spots number end
+  within_text are end is = record {
     within = λ other at.
         let same : spot ≡ other = same_Some spot other (sym here ∙ at) in
         omega (arith, is, ap (λ (s : Spot). length (text_at texts s.volume)) same);
+    reaches = λ other at.
+        let same : spot ≡ other = same_Some spot other (sym here ∙ at) in
+        record {
+          next = λ next there volume. omega (
+            arith,
+            is,
+            (are.each (suc number) next there).begins,
+            ap (λ (k : ℕ). length (text_at texts k)) (volume ∙ ap (λ (s : Spot). s.volume) (sym same)),
+          );
+          last = λ _. omega (arith, is, ap (λ (s : Spot). length (text_at texts s.volume)) same);
+        };
   }
 
 module _ (texts : List (List ℕ)) (book : Book) (spots : List Spot) (number : ℕ) (placed : ArePlaced texts book spots) (spot : Spot)
@@ -157,6 +174,14 @@ module _ (book : Book) (sound : IsSound book) (number : ℕ) (group : List ℕ) 
   pub kept_by : (result : KeptGroup) → IsFirstIn book.namespace number all result → IsKeptGroup book number result
   kept_by (kept.Right bytes outline) front = same_as bytes outline front
   kept_by kept.Damaged none = none found (record { text = group; rest = rest; composed = composed; is = found_is })
+
+-- a place behind the end of a group is one too
+pub reaches_on : (texts : List (List ℕ)) (spots : List Spot) (number : ℕ) (spot : Spot) (end further : ℕ) → Reaches texts spots number spot end
+    → end ≤ further → Reaches texts spots number spot further
+reaches_on texts spots number spot end further is behind = record {
+  next = λ next there volume. omega (arith, is.next next there volume, behind);
+  last = λ none. omega (arith, is.last none, behind);
+}
 
 -- what is read stands in the text
 module _ (texts : List (List ℕ)) (spots : List Spot) (number : ℕ) (are : AreWithin texts spots) (spot : Spot)

@@ -2,6 +2,7 @@ pub mod AskLaws
 pub mod BringLaws
 pub mod ChangeLaws
 pub mod ChooseLaws
+pub mod DamageLaws
 pub mod DecodeLaws
 pub mod DigestLaws
 mod EntryLaws

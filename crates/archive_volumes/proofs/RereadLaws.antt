@@ -1,5 +1,5 @@
 -- What is read of a capture of which a line alone told.
-use Rattle.std.proofs.Common.{◌≡◌, ℕ, ◌^◌, ◌<◌, Bool, true, false, List, length, Option, Some, None, Result, Ok, Err, refl, sym, ap, subst, ◌∙◌, inl, ⊎_elim, arith, ◌++◌}
+use Rattle.std.proofs.Common.{◌≡◌, ℕ, ◌+◌, ◌^◌, ◌<◌, Bool, true, false, List, length, Option, Some, None, Result, Ok, Err, refl, sym, ap, subst, ◌∙◌, inl, ⊎_elim, arith, ◌++◌}
 use Rattle.std.specs.Prelude.{IfOk, IfSome, IsTrue, if◌then◌else◌, not}
 use Rattle.std.specs.Str.{bytes_eq}
 use Rattle.std.proofs.lemmas.Bool.{false≢true}
@@ -28,11 +28,12 @@ use Rattle.volume_scan.proofs.FoundGroups.{group_found, group_is_found}
 use Rattle.volume_scan.proofs.FoundTexts.{found_writable}
 use Rattle.archive_shelf.specs.Comparing.{KeepsWire}
 use Rattle.archive_volumes.proofs.BringLaws.{no_digest, texts_stay}
+use Rattle.archive_volumes.proofs.DamageLaws.{told_found}
 use Rattle.archive_volumes.proofs.SameGroup.{digest_is, is_own, is_same, same_forms, taken}
 use Rattle.archive_volumes.specs.Bringing.{IsChecked, IsReadRight, OnlyReads, brought_of}
 use Rattle.archive_volumes.specs.Decoding.{IsHead}
 use Rattle.archive_volumes.specs.Held.{book_of}
-use Rattle.archive_volumes.specs.Rereading.{BeginWithText, IsAsKept, IsBackThere, IsBroughtThere, IsChosenThere, IsReread, IsRereadBy, HasItsPayload, IsRereadIn, IsRereadOf, IsRereadThere, IsSameOf, IsStoredOf, IsToldOf, StandsThere, from_place, own_by, revisit_by, right_by, whole_by}
+use Rattle.archive_volumes.specs.Rereading.{BeginWithText, IsAsKept, IsBackThere, IsBroughtThere, IsChosenThere, IsReread, IsRereadBy, HasItsPayload, Reaches, IsRereadIn, IsRereadOf, IsRereadThere, IsSameOf, IsStoredOf, IsToldOf, StandsThere, from_place, own_by, revisit_by, right_by, whole_by}
 use Rattle.archive_volumes.specs.Spots.{IsSpotOf, form_of, is_same_form, is_told_form}
 use Rattle.archive_volumes.specs.declared.held.Held.{Held}
 use Rattle.archive_volumes.specs.declared.payload.ReadBack.{ReadBack}
@@ -116,10 +117,11 @@ unlike_is_by group spot same unlike = (
 )
 
 -- what is read of the bytes that stand somewhere
-pub reread_at : (texts : List (List ℕ)) (namespace : List ℕ) (number : ℕ) (bytes : List ℕ) (spot : Spot) (read : Reread)
-    → bytes ≡ from_place texts spot (length bytes) → IsRereadIn namespace number bytes spot read → IsRereadThere texts namespace number spot read
-reread_at texts namespace number bytes spot read is by = record {
+pub reread_at : (texts : List (List ℕ)) (spots : List Spot) (namespace : List ℕ) (number : ℕ) (bytes : List ℕ) (spot : Spot) (read : Reread)
+    → Reaches texts spots number spot (spot.at + length bytes) → bytes ≡ from_place texts spot (length bytes) → IsRereadIn namespace number bytes spot read → IsRereadThere texts spots namespace number spot read
+reread_at texts spots namespace number bytes spot read reaches is by = record {
   long = length bytes;
+  reaches = reaches;
   is = subst (λ (b : List ℕ). IsRereadIn namespace number b spot read) is by;
 }
 
@@ -188,10 +190,31 @@ own_checked digest (reread.Own head payload cut) is = is
 own_checked digest (reread.Same head same) is = no_digest digest
 own_checked digest (reread.Damaged found) is = is
 
+-- a group of a capture that keeps its wire refers to none
+refers : (revisited : Revisited) → reference_in (Some revisited) ≡ None → ⊥
+refers revisited is = cc
+
+unreferred : (method head digest : List ℕ) (same : Option Revisited) (kept : Kept) → IsAnswer method head digest (reference_in same) kept
+    → is_same_form (form_of kept) ≡ false → (revisited : Revisited) → same ≡ Some revisited → ⊥
+unreferred method head digest same (Wire wire) answer own revisited is = refers revisited (sym (ap reference_in is) ∙ answer.0)
+unreferred method head digest same (Same first) answer own revisited is = absurd (false≢true (sym own))
+unreferred method head digest same (Cut wire) answer own revisited is = refers revisited (sym (ap reference_in is) ∙ answer.0)
+
+pub no_revisit_there : (texts : List (List ℕ)) (spots : List Spot) (namespace : List ℕ) (number : ℕ) (spot : Spot) → is_same_form spot.form ≡ false → (head : List ℕ)
+    (same : Revisited) → IsRereadThere texts spots namespace number spot (reread.Same head same) → ⊥
+no_revisit_there texts spots namespace number spot own head same there = ⊎_elim
+    (λ (some : (group : Group) × BeginsWithGroup namespace number (from_place texts spot there.long) group
+    × IsRereadBy group spot (reread.Same head same)).
+    unreferred some.0.stored.method some.0.stored.head some.0.digest some.0.same some.0.stored.kept some.1.is.answer (some.2.2.stored.revisit ∙ own)
+    same some.2.1)
+    (λ (none : ((group : Group) → BeginsWithGroup namespace number (from_place texts spot there.long) group → ⊥)
+    × (reread.Same head same ≡ reread.Damaged None)). cc)
+    there.is
+
 -- what is read of a capture that a line told of, where the disk tells
-pub own_there : (texts : List (List ℕ)) (namespace : List ℕ) (number : ℕ) (spot : Spot) (read : Reread) → IsRereadThere texts namespace number spot read
-    → IsBackThere texts namespace number spot (own_by read)
-own_there texts namespace number spot (reread.Own head payload cut) there = ⊎_elim
+pub own_there : (texts : List (List ℕ)) (spots : List Spot) (namespace : List ℕ) (number : ℕ) (spot : Spot) → is_told_form spot.form ≡ true → is_same_form spot.form ≡ false
+    → (read : Reread) → IsRereadThere texts spots namespace number spot read → IsBackThere texts spots namespace number spot (own_by read)
+own_there texts spots namespace number spot told keeps (reread.Own head payload cut) there = λ _. ⊎_elim
     (λ (some : (group : Group) × BeginsWithGroup namespace number (from_place texts spot there.long) group
     × IsRereadBy group spot (reread.Own head payload cut)). (
       some.0,
@@ -205,14 +228,14 @@ own_there texts namespace number spot (reread.Own head payload cut) there = ⊎_
     (λ (none : ((group : Group) → BeginsWithGroup namespace number (from_place texts spot there.long) group → ⊥)
     × (reread.Own head payload cut ≡ reread.Damaged None)). cc)
     there.is
-own_there texts namespace number spot (reread.Same head same) there = tt
-own_there texts namespace number spot (reread.Damaged found) there = tt
+own_there texts spots namespace number spot told keeps (reread.Same head same) there = absurd (no_revisit_there texts spots namespace number spot keeps head same there)
+own_there texts spots namespace number spot told keeps (reread.Damaged found) there = told_found texts spots namespace number spot told found there
 
 -- what is brought of it
-pub own_brought_there : (texts : List (List ℕ)) (namespace : List ℕ) (number : ℕ) (spot : Spot) (head payload : List ℕ)
-    → (is_told_form spot.form ≡ true → IsBackThere texts namespace number spot (back.Right head payload))
+pub own_brought_there : (texts : List (List ℕ)) (spots : List Spot) (namespace : List ℕ) (number : ℕ) (spot : Spot) (head payload : List ℕ)
+    → IsBackThere texts spots namespace number spot (back.Right head payload)
     → IsBroughtThere texts namespace number spot (brought_of spot head payload)
-own_brought_there texts namespace number spot head payload there told =
+own_brought_there texts spots namespace number spot head payload there told =
     let is = there told in (
       is.0,
       is.1,
@@ -231,10 +254,10 @@ revisit_read (reread.Own head payload cut) revisit is = cc
 revisit_read (reread.Same head same) revisit is = ap (λ (r : Revisit). reread.Same r.head r.same) (same_Some (record { head = head; same = same }) revisit is)
 revisit_read (reread.Damaged found) revisit is = cc
 
-pub same_brought_there : (texts : List (List ℕ)) (namespace : List ℕ) (number : ℕ) (spot : Spot) (head payload : List ℕ) (same : Revisited)
-    → is_same_form spot.form ≡ true → IsRereadThere texts namespace number spot (reread.Same head same)
+pub same_brought_there : (texts : List (List ℕ)) (spots : List Spot) (namespace : List ℕ) (number : ℕ) (spot : Spot) (head payload : List ℕ) (same : Revisited)
+    → is_same_form spot.form ≡ true → IsRereadThere texts spots namespace number spot (reread.Same head same)
     → IsBroughtThere texts namespace number spot (brought_of spot head payload)
-same_brought_there texts namespace number spot head payload same revisit there told = ⊎_elim
+same_brought_there texts spots namespace number spot head payload same revisit there told = ⊎_elim
     (λ (some : (group : Group) × BeginsWithGroup namespace number (from_place texts spot there.long) group
     × IsRereadBy group spot (reread.Same head same)). (
       some.0,
@@ -252,10 +275,10 @@ same_brought_there texts namespace number spot head payload same revisit there t
     there.is
 
 -- a payload that is found in it
-pub own_chosen_there : (texts : List (List ℕ)) (namespace : List ℕ) (number : ℕ) (spot : Spot) (head own payload : List ℕ) → own ≡ payload
-    → IsRereadThere texts namespace number spot (reread.Own head own false)
+pub own_chosen_there : (texts : List (List ℕ)) (spots : List Spot) (namespace : List ℕ) (number : ℕ) (spot : Spot) (head own payload : List ℕ) → own ≡ payload
+    → IsRereadThere texts spots namespace number spot (reread.Own head own false)
     → (group : Group) × StandsThere texts namespace number spot group × HasPayload false group.stored.method group.stored.head (kept_wire group.stored.kept) payload
-own_chosen_there texts namespace number spot head own payload same there = ⊎_elim
+own_chosen_there texts spots namespace number spot head own payload same there = ⊎_elim
     (λ (some : (group : Group) × BeginsWithGroup namespace number (from_place texts spot there.long) group
     × IsRereadBy group spot (reread.Own head own false)). (
       some.0,

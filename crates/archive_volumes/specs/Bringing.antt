@@ -12,9 +12,9 @@ use Rattle.archive_shelf.specs.declared.fault.BringFault.{BringFault}
 use Rattle.archive_shelf.specs.declared.fault.BringFault.TheVariants as brings
 use Rattle.archive_shelf.specs.declared.fault.StoreFault.{StoreFault}
 use Rattle.archive_shelf.specs.declared.fault.StoreFault.TheVariants as stores
-use Rattle.archive_volumes.specs.Decoding.{IsHead}
+use Rattle.archive_volumes.specs.Decoding.{DecodesToDigest, IsHead}
 use Rattle.archive_volumes.specs.Held.{book_of}
-use Rattle.archive_volumes.specs.Spots.{IsPlaced, IsSpotOf, is_same_form, is_told_form}
+use Rattle.archive_volumes.specs.Spots.{IsPlaced, IsSpotOf, head_in, is_cut_form, is_same_form, is_told_form, wire_in}
 use Rattle.archive_volumes.specs.Volumes.{HoldsBook, IsMeasured, IsQuiet}
 use Rattle.archive_volumes.specs.declared.part.ReadFault.{ReadFault}
 use Rattle.archive_volumes.specs.declared.part.ReadFault.TheVariants as reads
@@ -74,6 +74,15 @@ payload_by (back.Damaged found) = Err found
 abbrev pub IsChecked : List ℕ → ReadBack → Type 0
 IsChecked kept (back.Right head payload) = IsHead head true × (sha1 payload ≡ kept)
 IsChecked kept (back.Damaged found) = found ≢ Some kept
+
+-- where the disk tells: this is found of a payload by the head and the wire that stand in the capture's places
+abbrev pub DecodesThere : List (List ℕ) → Spot → Option (List ℕ) → Type 0
+DecodesThere texts spot found = DecodesToDigest (is_cut_form spot.form) spot.method (head_in texts spot) (wire_in texts spot) found
+
+-- what is damaged is told with that
+abbrev pub FindsThere : List (List ℕ) → Spot → ReadBack → Type 0
+FindsThere texts spot (back.Right head payload) = ⊤
+FindsThere texts spot (back.Damaged found) = DecodesThere texts spot found
 
 -- these are the head and the payload of the capture with this number
 pub record AreOf (book : Book) (number : ℕ) (head payload : List ℕ) : Type 0 where

@@ -31,11 +31,15 @@ NoneDamagedBelow from (Err stores.Memory) = ⊤
 
 -- ---- one capture
 
+-- other bytes than the payload were read with the digest that is kept
+abbrev pub IsOther : List ℕ → List ℕ → Type 0
+IsOther kept payload = (bytes : List ℕ) × (sha1 bytes ≡ kept) × (bytes ≢ payload)
+
 -- Whatever the disk tells: other bytes than the payload were read with the digest that is kept, and what is damaged has
 -- another one.
 abbrev pub IsComparison : List ℕ → List ℕ → Compared → Type 0
 IsComparison kept payload compares.Same = ⊤
-IsComparison kept payload compares.Other = (bytes : List ℕ) × (sha1 bytes ≡ kept) × (bytes ≢ payload)
+IsComparison kept payload compares.Other = IsOther kept payload
 IsComparison kept payload (compares.Damaged found) = found ≢ Some kept
 
 -- how bytes that were read compare with a payload; where they are damaged their digest isn't the one that is kept
@@ -49,6 +53,12 @@ abbrev pub OnSame : Compared → Type 0 → Type 0
 OnSame compares.Same holds = holds
 OnSame compares.Other holds = ⊤
 OnSame (compares.Damaged found) holds = ⊤
+
+-- what holds of the digest that is told, where it is answered to be damaged
+abbrev pub OnDamage : Compared → (Option (List ℕ) → Type 0) → Type 0
+OnDamage compares.Same holds = ⊤
+OnDamage compares.Other holds = ⊤
+OnDamage (compares.Damaged found) holds = holds found
 
 -- how the payload of the capture with this number compares, where the disk tells
 abbrev pub ComparesWith : Book → ℕ → List ℕ → Compared → Type 0

@@ -1,5 +1,6 @@
 -- What stands behind a response's head, whatever bytes these are: the framing that it tells, and the payload.
 use Rattle.std.specs.Prelude.{◌≡◌, ℕ, ◌^◌, ◌<◌, Bool, true, false, List, length, Option, Some, None, Ok}
+use Rattle.sha1.specs.Sha1.{sha1}
 use Rattle.httparse.specs.Grammar.{ResponseHead}
 use Rattle.capture.specs.Body.{IsWire}
 use Rattle.capture.specs.Captures.{HasPayload}
@@ -45,7 +46,17 @@ pub record Decodes (cut : Bool) (method head wire payload : List ℕ) : Type 0 w
   pub tells : HeadTells (Responses (asks_for_head method)) head (Ok framing)
   pub decoded : IsPayload cut framing wire payload
 
--- what a head and a wire decode to; or that they have no payload
-abbrev pub DecodesTo : Bool → List ℕ → List ℕ → List ℕ → Option (List ℕ) → Type 0
-DecodesTo cut method head wire (Some payload) = Decodes cut method head wire payload
-DecodesTo cut method head wire None = (payload : List ℕ) → HasPayload cut method head wire payload → ⊥
+-- the digest of a payload that was found, if one was
+abbrev pub digest_in : Option (List ℕ) → Option (List ℕ)
+digest_in None = None
+digest_in (Some payload) = Some (sha1 payload)
+
+-- the digest of the payload of a wire, whole or cut; or that it isn't a wire of that framing
+abbrev pub HoldsDigest : Bool → Framing → List ℕ → Option (List ℕ) → Type 0
+HoldsDigest cut framing wire (Some digest) = (payload : List ℕ) × IsPayload cut framing wire payload × (digest ≡ sha1 payload)
+HoldsDigest cut framing wire None = ¬ (IsWire cut framing wire)
+
+-- the digest of what a head and a wire decode to; or that they have no payload
+abbrev pub DecodesToDigest : Bool → List ℕ → List ℕ → List ℕ → Option (List ℕ) → Type 0
+DecodesToDigest cut method head wire (Some digest) = (payload : List ℕ) × Decodes cut method head wire payload × (digest ≡ sha1 payload)
+DecodesToDigest cut method head wire None = (payload : List ℕ) → HasPayload cut method head wire payload → ⊥

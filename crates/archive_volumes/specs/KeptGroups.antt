@@ -13,6 +13,7 @@ use Rattle.archive_shelf.specs.Answers.{IsDamaged}
 use Rattle.archive_shelf.specs.Pieces.{IsFront, IsPiece, IsSomePiece}
 use Rattle.archive_shelf.specs.declared.fault.BringFault.{BringFault}
 use Rattle.archive_shelf.specs.declared.fault.BringFault.TheVariants as brings
+use Rattle.archive_volumes.specs.Rereading.{Reaches}
 use Rattle.archive_volumes.specs.Spots.{text_at}
 use Rattle.archive_volumes.specs.declared.kept_group.KeptGroup.{KeptGroup}
 use Rattle.archive_volumes.specs.declared.kept_group.KeptGroup.TheVariants as kept
@@ -25,9 +26,10 @@ pub record IsNextAt (spots : List Spot) (number volume at : ℕ) : Type 0 where
   pub same : next.volume ≡ volume
   pub is : at ≡ next.at
 
--- it is a place in the text of the volume in which the capture with this number stands
+-- it is a place in the text of the volume in which the capture with this number stands, and no place before the end of its group
 pub record EndsWithin (texts : List (List ℕ)) (spots : List Spot) (number end : ℕ) : Type 0 where
   pub within : (spot : Spot) → slice_get spots number ≡ Some spot → end ≤ length (text_at texts spot.volume)
+  pub reaches : (spot : Spot) → slice_get spots number ≡ Some spot → Reaches texts spots number spot end
 
 -- the group of the capture with this number ends there or before
 pub record EndsGroup (book : Book) (spots : List Spot) (number end : ℕ) : Type 0 where

@@ -1,5 +1,6 @@
 pub mod Bringing
 pub mod Choosing
+pub mod Damage
 pub mod Decoding
 pub mod Digests
 pub mod Entries

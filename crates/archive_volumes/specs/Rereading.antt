@@ -1,5 +1,5 @@
 -- A capture of which a line alone told, read whole by its place.
-use Rattle.std.specs.Prelude.{◌≡◌, ◌≢◌, ◌⊎◌, ℕ, ◌^◌, ◌<◌, Bool, true, false, if◌then◌else◌, IsSomeAnd, List, ◌++◌, length, slice_get, get_or, Option, Some, None, ⊤}
+use Rattle.std.specs.Prelude.{◌≡◌, ◌≢◌, ◌⊎◌, ℕ, suc, ◌+◌, ◌^◌, ◌<◌, ◌≤◌, Bool, true, false, if◌then◌else◌, IsSomeAnd, List, ◌++◌, length, slice_get, get_or, Option, Some, None}
 use Rattle.std.specs.Str.{bytes_eq}
 use Rattle.sha1.specs.Sha1.{sha1}
 use Rattle.capture.specs.Captures.{captures, is_cut, kept_wire, HasPayload, IsPayloadOf}
@@ -14,7 +14,7 @@ use Rattle.warc_text.specs.Books.{IsGroupText}
 use Rattle.warc_text.specs.Ids.{id_of}
 use Rattle.warc_text.specs.declared.id.IdKind.TheVariants.{Response}
 use Rattle.archive_shelf.specs.Comparing.{KeepsWire}
-use Rattle.archive_volumes.specs.Bringing.{AreOf}
+use Rattle.archive_volumes.specs.Bringing.{AreOf, DecodesThere}
 use Rattle.archive_volumes.specs.Decoding.{Decodes, IsHead}
 use Rattle.archive_volumes.specs.Spots.{form_of, head_in, is_same_form, is_told_form, part, text_at, wire_in}
 use Rattle.archive_volumes.specs.declared.payload.ReadBack.{ReadBack}
@@ -85,9 +85,15 @@ IsRereadIn namespace number bytes spot read =
 abbrev pub from_place : List (List ℕ) → Spot → ℕ → List ℕ
 from_place texts spot long = part (text_at texts spot.volume) spot.at long
 
--- this is read of the bytes that stand at the capture's place
-pub record IsRereadThere (texts : List (List ℕ)) (namespace : List ℕ) (number : ℕ) (spot : Spot) (read : Reread) : Type 0 where
+-- it isn't before the place where the next capture of the volume begins, or where the volume's text ends
+pub record Reaches (texts : List (List ℕ)) (spots : List Spot) (number : ℕ) (spot : Spot) (end : ℕ) : Type 0 where
+  pub next : (next : Spot) → slice_get spots (suc number) ≡ Some next → next.volume ≡ spot.volume → next.at ≤ end
+  pub last : ((next : Spot) → slice_get spots (suc number) ≡ Some next → next.volume ≡ spot.volume → ⊥) → length (text_at texts spot.volume) ≤ end
+
+-- this is read of the bytes that stand at the capture's place, as far as its group may reach
+pub record IsRereadThere (texts : List (List ℕ)) (spots : List Spot) (namespace : List ℕ) (number : ℕ) (spot : Spot) (read : Reread) : Type 0 where
   pub long : ℕ
+  pub reaches : Reaches texts spots number spot (spot.at + long)
   pub is : IsRereadIn namespace number (from_place texts spot long) spot read
 
 -- a group with the capture's number stands at its place, and tells what is kept of it
@@ -102,10 +108,18 @@ pub record IsOwnIn (group : Group) (head payload : List ℕ) : Type 0 where
   pub own : is_same_form (form_of group.stored.kept) ≡ false
   pub has : HasPayload (is_cut group.stored.kept) group.stored.method group.stored.head (kept_wire group.stored.kept) payload
 
--- what was read of a capture that is to keep its wire is what the group tells that stands there
-abbrev pub IsBackThere : List (List ℕ) → List ℕ → ℕ → Spot → ReadBack → Type 0
-IsBackThere texts namespace number spot (back.Right head payload) = (group : Group) × StandsThere texts namespace number spot group × IsOwnIn group head payload
-IsBackThere texts namespace number spot (back.Damaged found) = ⊤
+-- This is found of a capture's payload by the bytes that stand there. Of one whose records were read it is the digest of what its head and its wire
+-- decode to; of one of which a line alone told, what the group there tells by another digest than the one that is kept.
+pub record IsFoundThere (texts : List (List ℕ)) (spots : List Spot) (namespace : List ℕ) (number : ℕ) (spot : Spot) (found : Option (List ℕ)) : Type 0 where
+  pub read : is_told_form spot.form ≡ false → DecodesThere texts spot found
+  pub told : is_told_form spot.form ≡ true → IsRereadThere texts spots namespace number spot (reread.Damaged found)
+
+-- what was read of a capture that is to keep its wire is what the group tells that stands there, where a line alone told of it; damage is told with
+-- what is found there
+abbrev pub IsBackThere : List (List ℕ) → List Spot → List ℕ → ℕ → Spot → ReadBack → Type 0
+IsBackThere texts spots namespace number spot (back.Right head payload) =
+    is_told_form spot.form ≡ true → (group : Group) × StandsThere texts namespace number spot group × IsOwnIn group head payload
+IsBackThere texts spots namespace number spot (back.Damaged found) = IsFoundThere texts spots namespace number spot found
 
 -- a group tells of its capture what is brought: the payload, where it keeps its wire
 pub record IsBroughtOf (group : Group) (brought : Brought) : Type 0 where

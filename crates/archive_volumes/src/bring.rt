@@ -1,5 +1,5 @@
 //! A capture by its number, with its payload.
-ghost use Rattle.std.specs.Prelude.{◌≡◌, ◌<◌, false, true, IsTrue, IfOk, Err, None, Some, length, slice_get};
+ghost use Rattle.std.specs.Prelude.{◌≡◌, ◌<◌, false, true, IsTrue, IfErr, IfOk, Err, None, Some, length, slice_get};
 ghost use Rattle.std.specs.List.Sorted.{IsStrictlyIncreasing};
 ghost use Rattle.revisit_table.specs.Table.{numbers_of};
 ghost use Rattle.warc_journal.specs.Journals.{disk_of, texts};
@@ -7,6 +7,7 @@ ghost use Rattle.archive_shelf.specs.Answers.{CountsIf, NamesKeeper, is_bring_fa
 ghost use Rattle.archive_shelf.specs.Digests.{GoesByDigest};
 ghost use Rattle.archive_shelf.specs.declared.fault.BringFault.TheVariants.{Damaged as DamagedAt};
 ghost use Rattle.archive_volumes.specs.Bringing.{BringsFrom, OnlyReads, brought_of};
+ghost use Rattle.archive_volumes.specs.Damage.{TellsFound};
 ghost use Rattle.archive_volumes.specs.Digests.{BringsDigest, GoesByKeeper, GoesByKept, GoesByLine, GoesByOwn};
 ghost use Rattle.archive_volumes.specs.Held.{book_of};
 ghost use Rattle.archive_volumes.specs.Rereading.{IsBroughtThere};
@@ -72,6 +73,8 @@ impl<D: Disk> Volumes<D> {
         ensures digest { (spot : SpotValue) → slice_get spots.now number ≡ Some spot → GoesByOwn number spot.digest result }
         ensures there { IsTrue D.tells → (spot : SpotValue) → slice_get spots.now number ≡ Some spot
             → IfOk result (IsBroughtThere (texts D.Disk self.old.journal) (book_of self.old.held).namespace number spot) }
+        ensures found { IsTrue D.tells → IfErr result
+            (TellsFound (texts D.Disk self.old.journal) (book_of self.old.held).namespace spots.now number) }
         ensures reads { OnlyReads D.Disk self.old self.new }
         ensures faults { CountsIf (is_bring_fault result) (D.faults (disk_of self.old.journal)) (D.faults (disk_of self.new.journal)) }
     {
@@ -107,6 +110,8 @@ impl<D: Disk> Volumes<D> {
         ensures brings { BringsFrom told.now.value (book_of self.old.held) number result }
         ensures digest { (keeper : SpotValue) → slice_get spots.now first ≡ Some keeper → GoesByKeeper number first keeper.digest result }
         ensures own { (spot : SpotValue) → slice_get spots.now number ≡ Some spot → BringsDigest spot.digest result }
+        ensures found { IsTrue D.tells → IfErr result
+            (TellsFound (texts D.Disk self.old.journal) (book_of self.old.held).namespace spots.now number) }
         ensures reads { OnlyReads D.Disk self.old self.new }
         ensures faults { CountsIf (is_bring_fault result) (D.faults (disk_of self.old.journal)) (D.faults (disk_of self.new.journal)) }
     {
@@ -202,6 +207,8 @@ impl<D: Disk> Volumes<D> {
         ensures own { (spot : SpotValue) → slice_get spots.now number ≡ Some spot → BringsDigest spot.digest result }
         ensures there { IsTrue D.tells → (spot : SpotValue) → slice_get spots.now number ≡ Some spot
             → IfOk result (IsBroughtThere (texts D.Disk self.old.journal) (book_of self.old.held).namespace number spot) }
+        ensures found { IsTrue D.tells → IfErr result
+            (TellsFound (texts D.Disk self.old.journal) (book_of self.old.held).namespace spots.now number) }
         ensures digests { GoesByDigest (book_of self.old.held) number result }
         ensures reads { OnlyReads D.Disk self.old self.new }
         ensures faults { CountsIf (is_bring_fault result) (D.faults (disk_of self.old.journal)) (D.faults (disk_of self.new.journal)) }

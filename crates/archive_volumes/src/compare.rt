@@ -1,5 +1,5 @@
 //! Which capture has a payload. Candidates are those with its digest; their payloads are compared as the disk has them.
-ghost use Rattle.std.specs.Prelude.{◌≡◌, ◌↔◌, ℕ, List, [], ◌+◌, ◌^◌, ◌<◌, Option, false, nat_le, filter, IsFalse, IsTrue, IfOk, IfSome, None, Some, length, slice_get};
+ghost use Rattle.std.specs.Prelude.{◌≡◌, ◌≢◌, ◌↔◌, ℕ, List, [], ◌+◌, ◌^◌, ◌<◌, Option, false, nat_le, filter, IsFalse, IsTrue, IfErr, IfOk, IfSome, None, Some, length, slice_get};
 ghost use Rattle.std.specs.List.Sorted.{IsStrictlyIncreasing};
 ghost use Rattle.sha1.specs.Sha1.{sha1};
 ghost use Rattle.capture.specs.Body.{IsWire};
@@ -8,9 +8,10 @@ ghost use Rattle.revisit_table.specs.Table.{numbers_of};
 ghost use Rattle.warc_journal.specs.Journals.{IsInStep, disk_of, texts};
 ghost use Rattle.archive_shelf.specs.Answers.{CountsIf};
 ghost use Rattle.archive_shelf.specs.Comparing.{IsRight};
-ghost use Rattle.archive_volumes.specs.Bringing.{IsKept, OnlyReads, is_read_fault};
-ghost use Rattle.archive_volumes.specs.Choosing.{Asks, Chooses, Compares, ComparesWith, IsComparison, IsKeptWith, LooksOn, MayBeWhole, MayBeWholeAt, NoneDamagedBelow, OnSame, is_look_fault};
-ghost use Rattle.archive_volumes.specs.Decoding.{Decodes, HoldsPayload, is_plain as spec_plain};
+ghost use Rattle.archive_volumes.specs.Bringing.{DecodesThere, IsKept, OnlyReads, is_read_fault};
+ghost use Rattle.archive_volumes.specs.Choosing.{Asks, Chooses, Compares, ComparesWith, IsComparison, IsKeptWith, LooksOn, MayBeWhole, MayBeWholeAt, NoneDamagedBelow, OnDamage, OnSame, is_look_fault};
+ghost use Rattle.archive_volumes.specs.Damage.{IsPassedOver, PassesOver, TellsDamage};
+ghost use Rattle.archive_volumes.specs.Decoding.{Decodes, HoldsDigest, HoldsPayload, digest_in, is_plain as spec_plain};
 ghost use Rattle.archive_volumes.specs.Held.{book_of};
 ghost use Rattle.archive_volumes.specs.Rereading.{IsChosenThere};
 ghost use Rattle.archive_volumes.specs.Spots.{AreHeldWhole, AreSpotsOf, ArePlaced, AreWithin, HasPlace, head_in, is_cut_form, whole_from, wire_in};
@@ -79,6 +80,7 @@ fn compare_found(kept: &Digest, found: Option<Bytes>, framing: Framing, wire: &[
     ensures compares { (payload bytes : List ℕ) → IsPayload false framing wire.now payload → found ≡ Some bytes
         → Compares kept.now bytes payload result }
     ensures same { (payload : List ℕ) → IsPayload false framing wire.now payload → OnSame result (found ≡ Some payload) }
+    ensures damage { OnDamage result (λ digest. digest ≡ digest_in found) }
 {
     match found {
         None => Compared::Damaged(None),
@@ -172,6 +174,8 @@ impl<D: Disk> Volumes<D> {
             → IfOk result (Compares spot.now.digest bytes payload) }
         ensures same { IsTrue D.tells → (payload : List ℕ) → IsPayload false framing wire.now payload → IfOk result (λ compared. OnSame compared
             (IsPayload (is_cut_form spot.now.form) kept (wire_in (texts D.Disk self.old.journal) spot.now) payload)) }
+        ensures damage { IsTrue D.tells → IfOk result (λ compared. OnDamage compared
+            (HoldsDigest (is_cut_form spot.now.form) kept (wire_in (texts D.Disk self.old.journal) spot.now))) }
         ensures reads { OnlyReads D.Disk self.old self.new }
         ensures faults { CountsIf (is_read_fault result) (D.faults (disk_of self.old.journal)) (D.faults (disk_of self.new.journal)) }
     {
@@ -199,6 +203,7 @@ impl<D: Disk> Volumes<D> {
             → IfOk result (ComparesWith (book_of self.old.held) number payload) }
         ensures same { IsTrue D.tells → (payload : List ℕ) → IsPayload false framing wire.now payload → IfOk result (λ compared. OnSame compared
             (Decodes false spot.now.method (head_in (texts D.Disk self.old.journal) spot.now) (wire_in (texts D.Disk self.old.journal) spot.now) payload)) }
+        ensures damage { IsTrue D.tells → IfOk result (λ compared. OnDamage compared (DecodesThere (texts D.Disk self.old.journal) spot.now)) }
         ensures reads { OnlyReads D.Disk self.old self.new }
         ensures faults { CountsIf (is_read_fault result) (D.faults (disk_of self.old.journal)) (D.faults (disk_of self.new.journal)) }
     {
@@ -237,6 +242,9 @@ impl<D: Disk> Volumes<D> {
         ensures asks { (payload : List ℕ) → IsPayload false framing wire.now payload → Asks told.now.value (book_of self.old.held) number payload result }
         ensures there { IsTrue D.tells → (payload : List ℕ) → IsPayload false framing wire.now payload → IfOk result (λ has. IsTrue has
             → IsChosenThere (texts D.Disk self.old.journal) (book_of self.old.held).namespace spots.now payload number) }
+        ensures damage { IfErr result (TellsDamage D.tells (texts D.Disk self.old.journal) (book_of self.old.held).namespace spots.now) }
+        ensures passes { (payload : List ℕ) → IsPayload false framing wire.now payload → IfOk result (λ has. IsFalse has
+            → IsPassedOver D.tells (texts D.Disk self.old.journal) (book_of self.old.held).namespace spots.now payload number) }
         ensures reads { OnlyReads D.Disk self.old self.new }
         ensures faults { CountsIf (is_look_fault result) (D.faults (disk_of self.old.journal)) (D.faults (disk_of self.new.journal)) }
     {
@@ -282,6 +290,9 @@ impl<D: Disk> Volumes<D> {
         ensures asks { (payload : List ℕ) → IsPayload false framing wire.now payload → Asks told.now.value (book_of self.old.held) number payload result }
         ensures there { IsTrue D.tells → (payload : List ℕ) → IsPayload false framing wire.now payload → IfOk result (λ has. IsTrue has
             → IsChosenThere (texts D.Disk self.old.journal) (book_of self.old.held).namespace spots.now payload number) }
+        ensures damage { IfErr result (TellsDamage D.tells (texts D.Disk self.old.journal) (book_of self.old.held).namespace spots.now) }
+        ensures passes { (payload : List ℕ) → IsPayload false framing wire.now payload → IfOk result (λ has. IsFalse has
+            → IsPassedOver D.tells (texts D.Disk self.old.journal) (book_of self.old.held).namespace spots.now payload number) }
         ensures reads { OnlyReads D.Disk self.old self.new }
         ensures faults { CountsIf (is_look_fault result) (D.faults (disk_of self.old.journal)) (D.faults (disk_of self.new.journal)) }
     {
@@ -323,6 +334,9 @@ impl<D: Disk> Volumes<D> {
             → Chooses told.now.value (book_of self.old.held) candidates.now payload result }
         ensures there { IsTrue D.tells → (payload : List ℕ) → IsPayload false framing wire.now payload → IfOk result (λ found. IfSome found
             (IsChosenThere (texts D.Disk self.old.journal) (book_of self.old.held).namespace spots.now payload)) }
+        ensures damage { IfErr result (TellsDamage D.tells (texts D.Disk self.old.journal) (book_of self.old.held).namespace spots.now) }
+        ensures passes { (payload : List ℕ) → IsPayload false framing wire.now payload → IfOk result
+            (PassesOver D.tells (texts D.Disk self.old.journal) (book_of self.old.held).namespace spots.now candidates.now payload) }
         ensures reads { OnlyReads D.Disk self.old self.new }
         ensures faults { CountsIf (is_look_fault result) (D.faults (disk_of self.old.journal)) (D.faults (disk_of self.new.journal)) }
     {
@@ -366,6 +380,10 @@ impl<D: Disk> Volumes<D> {
             (IsChosenThere (texts D.Disk self.old.journal) (book_of self.old.held).namespace spots.now payload)) }
         ensures digest { (payload : List ℕ) → IsPayload false framing wire.now payload → looked.same ≡ None
             → IfOk result (λ now. IfSome now.same (IsKeptWith spots.now (sha1 payload))) }
+        ensures damage { IfErr result (TellsDamage D.tells (texts D.Disk self.old.journal) (book_of self.old.held).namespace spots.now) }
+        ensures passes { (payload : List ℕ) → IsPayload false framing wire.now payload → payload ≢ [] → looked.same ≡ None
+            → IfOk result (λ now. PassesOver D.tells (texts D.Disk self.old.journal) (book_of self.old.held).namespace spots.now candidates.now
+            payload now.same) }
         ensures reads { OnlyReads D.Disk self.old self.new }
         ensures faults { CountsIf (is_look_fault result) (D.faults (disk_of self.old.journal)) (D.faults (disk_of self.new.journal)) }
     {

@@ -7,7 +7,7 @@ ghost use Rattle.archive_shelf.specs.Answers.{CountsIf};
 ghost use Rattle.archive_volumes.specs.Bringing.{OnlyReads, is_read_fault};
 ghost use Rattle.archive_volumes.specs.Held.{book_of};
 ghost use Rattle.archive_volumes.specs.KeptGroups.{EndsGroup, EndsWithin, IsFirstIn, IsKeptGroup, IsNextAt, IsSomeGroup};
-ghost use Rattle.archive_volumes.specs.Rereading.{BeginWithText, from_place};
+ghost use Rattle.archive_volumes.specs.Rereading.{BeginWithText, Reaches, from_place};
 ghost use Rattle.archive_volumes.specs.Spots.{AreSpotsOf, ArePlaced, AreWithin, text_at};
 ghost use Rattle.archive_volumes.specs.Volumes.{HoldsBook, IsMeasured};
 ghost use Rattle.archive_volumes.specs.declared.spot.Spot.{Spot};
@@ -161,6 +161,8 @@ impl<D: Disk> Volumes<D> {
         ensures begins { IsTrue told.now.value → IfOk result (λ bytes. BeginWithText (book_of self.old.held) number bytes.items) }
         ensures bytes { IsTrue D.tells → (spot : Spot) → slice_get spots.now number ≡ Some spot
             → IfOk result (λ bytes. bytes.items ≡ from_place (texts D.Disk self.old.journal) spot (length bytes.items)) }
+        ensures reaches { IsTrue D.tells → (spot : Spot) → slice_get spots.now number ≡ Some spot
+            → IfOk result (λ bytes. Reaches (texts D.Disk self.old.journal) spots.now number spot (spot.at + length bytes.items)) }
         ensures reads { OnlyReads D.Disk self.old self.new }
         ensures faults { CountsIf (is_read_fault result) (D.faults (disk_of self.old.journal)) (D.faults (disk_of self.new.journal)) }
     {

@@ -2,7 +2,7 @@
 ghost use Rattle.std.specs.Prelude.{◌≡◌, ℕ, ◌+◌, ◌^◌, ◌<◌, true, IsTrue, IfOk, IfSome};
 ghost use Rattle.warc_journal.specs.Journals.{IsInStep, disk_of, texts};
 ghost use Rattle.archive_shelf.specs.Answers.{CountsIf};
-ghost use Rattle.archive_volumes.specs.Bringing.{IsChecked, IsKept, IsReadRight, OnlyReads, checked_by, is_read_fault, payload_by};
+ghost use Rattle.archive_volumes.specs.Bringing.{FindsThere, IsChecked, IsKept, IsReadRight, OnlyReads, checked_by, is_read_fault, payload_by};
 ghost use Rattle.archive_volumes.specs.Decoding.{HoldsPayload, IsHead, IsHeadAt};
 ghost use Rattle.archive_volumes.specs.Held.{book_of};
 ghost use Rattle.archive_volumes.specs.Spots.{HasPlace, head_in, is_cut_form, wire_in};
@@ -102,6 +102,7 @@ impl<D: Disk> Volumes<D> {
         ensures right { (number : ℕ) → IsTrue D.tells
             → IsKept (texts D.Disk self.old.journal) (book_of self.old.held) number spot.now
             → IfOk result (IsReadRight (book_of self.old.held) number) }
+        ensures found { IsTrue D.tells → IfOk result (FindsThere (texts D.Disk self.old.journal) spot.now) }
         ensures reads { OnlyReads D.Disk self.old self.new }
         ensures faults { CountsIf (is_read_fault result) (D.faults (disk_of self.old.journal)) (D.faults (disk_of self.new.journal)) }
     {

@@ -8,7 +8,7 @@ ghost use Rattle.archive_shelf.specs.Answers.{CountsIf};
 ghost use Rattle.archive_volumes.specs.Bringing.{IsChecked, IsReadRight, OnlyReads, is_read_fault};
 ghost use Rattle.archive_volumes.specs.Held.{book_of};
 ghost use Rattle.archive_volumes.specs.Rereading.{IsBackThere, IsReread, IsRereadBy, IsRereadIn, IsRereadOf, IsRereadThere, IsStoredOf, IsToldOf, own_by, revisit_by};
-ghost use Rattle.archive_volumes.specs.Spots.{AreSpotsOf, ArePlaced, AreWithin, is_same_form, is_told_form};
+ghost use Rattle.archive_volumes.specs.Spots.{AreSpotsOf, ArePlaced, AreWithin, is_same_form};
 ghost use Rattle.archive_volumes.specs.Volumes.{HoldsBook, IsMeasured};
 ghost use Rattle.archive_volumes.specs.declared.reread.Reread.TheVariants.{Own as OwnRead, Same as SameRead};
 ghost use Rattle.archive_volumes.specs.declared.spot.Spot.{Spot as SpotValue};
@@ -215,7 +215,7 @@ impl<D: Disk> Volumes<D> {
         requires placed { IsTrue told.now.value → ArePlaced (texts D.Disk self.old.journal) (book_of self.old.held) spots.now }
         ensures read { (spot : SpotValue) → slice_get spots.now number ≡ Some spot → IfOk result (IsReread spot.digest) }
         ensures there { IsTrue D.tells → (spot : SpotValue) → slice_get spots.now number ≡ Some spot
-            → IfOk result (IsRereadThere (texts D.Disk self.old.journal) (book_of self.old.held).namespace number spot) }
+            → IfOk result (IsRereadThere (texts D.Disk self.old.journal) spots.now (book_of self.old.held).namespace number spot) }
         ensures right { IsTrue told.now.value → IfOk result (IsRereadOf (book_of self.old.held) number) }
         ensures reads { OnlyReads D.Disk self.old self.new }
         ensures faults { CountsIf (is_read_fault result) (D.faults (disk_of self.old.journal)) (D.faults (disk_of self.new.journal)) }
@@ -242,8 +242,8 @@ impl<D: Disk> Volumes<D> {
         requires placed { IsTrue told.now.value → ArePlaced (texts D.Disk self.old.journal) (book_of self.old.held) spots.now }
         requires own { (spot : SpotValue) → slice_get spots.now number ≡ Some spot → is_same_form spot.form ≡ false }
         ensures checked { (spot : SpotValue) → slice_get spots.now number ≡ Some spot → IfOk result (IsChecked spot.digest) }
-        ensures there { IsTrue D.tells → (spot : SpotValue) → slice_get spots.now number ≡ Some spot → is_told_form spot.form ≡ true
-            → IfOk result (IsBackThere (texts D.Disk self.old.journal) (book_of self.old.held).namespace number spot) }
+        ensures there { IsTrue D.tells → (spot : SpotValue) → slice_get spots.now number ≡ Some spot
+            → IfOk result (IsBackThere (texts D.Disk self.old.journal) spots.now (book_of self.old.held).namespace number spot) }
         ensures right { IsTrue told.now.value → IfOk result (IsReadRight (book_of self.old.held) number) }
         ensures reads { OnlyReads D.Disk self.old self.new }
         ensures faults { CountsIf (is_read_fault result) (D.faults (disk_of self.old.journal)) (D.faults (disk_of self.new.journal)) }

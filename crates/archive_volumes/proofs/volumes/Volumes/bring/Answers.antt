@@ -3,6 +3,7 @@ use Rattle.warc_journal.specs.Journals.{texts}
 use Rattle.std.proofs.Common.{◌≡◌, false, true, ℕ, List, sym, ap, ◌∙◌, arith}
 use Rattle.revisit_table.specs.Table.{numbers_of}
 use Rattle.archive_volumes.proofs.BringLaws.{refers_to}
+use Rattle.archive_volumes.proofs.DamageLaws.{line_found}
 use Rattle.archive_volumes.proofs.DigestLaws.{form_at, line_brings, line_digests, line_goes_by_kept, line_names, one_spot, own_brings, own_digests, own_goes_by_kept, own_names, same_digests, same_form, same_goes_by_kept, same_names, told_form}
 use Rattle.archive_volumes.proofs.GroupLaws.{got}
 use Rattle.archive_volumes.proofs.PieceFronts.{spot_there}
@@ -139,3 +140,10 @@ returns-in-None-clause-digests g c =
     let form : spot.form ≡ forms.Told true =
     told_form spot.form (sym c.is_same.ensures ∙ c.if-not-is_same.false) (sym c.keeper.ensures ∙ c.in-None.is) in
     line_digests book c.args.number spot its (ap is_told_form form) c.bring_told.result (c.bring_told.ensures.digest spot here)
+
+pub returns-in-None-clause-found : goal.returns-in-None-clause-found
+returns-in-None-clause-found g c tells =
+    let spot = c.index-spots-number.result in
+    let here = got c.args.spots.now c.args.number spot c.requires.below c.index-spots-number.is in
+    line_found (texts g.D.Disk c.args.self.now.journal) (book_of c.args.self.now.held).namespace c.args.spots.now c.args.number spot here
+    (sym c.is_same.ensures ∙ c.if-not-is_same.false) c.bring_told.result (c.bring_told.ensures.digest spot here)

@@ -6,6 +6,7 @@ use Rattle.std.proofs.Common.{IsTrue, Ok, refl, sym, subst, inl, arith}
 use Rattle.std.specs.Prelude.{slice_get, ◌≡◌, Some}
 use Rattle.capture.specs.declared.captured.Brought.{Brought}
 use Rattle.archive_volumes.proofs.BringLaws.{damaged, named, own_brought, replayable}
+use Rattle.archive_volumes.proofs.DamageLaws.{keeper_found}
 use Rattle.archive_volumes.proofs.DigestLaws.{own_goes, one_spot}
 use Rattle.archive_volumes.proofs.GroupLaws.{got}
 use Rattle.archive_volumes.specs.Bringing.{AreOf, BringsFrom, IsChecked, IsReadRight, brought_of}
@@ -61,5 +62,14 @@ returns-in_ok-brought-in-Right-clause-there g c tells other at =
     subst (IsBroughtThere all namespace c.args.number other) (sym c.in_ok-brought-in-Right.ensures)
     (subst (λ (s : Spot). IsBroughtThere all namespace c.args.number s (brought_of spot c.in-Right.head c.in-Right.payload))
     (one_spot c.args.spots.now c.args.number spot other here at)
-    (own_brought_there all namespace c.args.number spot c.in-Right.head c.in-Right.payload
-    (λ told. subst (IsBackThere all namespace c.args.number spot) c.in-Right.is (c.in_ok-read.ensures.there tells spot here told))))
+    (own_brought_there all c.args.spots.now namespace c.args.number spot c.in-Right.head c.in-Right.payload
+    (subst (IsBackThere all c.args.spots.now namespace c.args.number spot) c.in-Right.is (c.in_ok-read.ensures.there tells spot here))))
+
+pub returns-in-Damaged-clause-found : goal.returns-in-Damaged-clause-found
+returns-in-Damaged-clause-found g c tells =
+    let spot = c.index-spots-number.result in
+    let all = texts g.D.Disk c.args.self.now.journal in
+    let namespace = (book_of c.args.self.now.held).namespace in
+    let here : slice_get c.args.spots.now c.args.number ≡ Some spot = got c.args.spots.now c.args.number spot c.requires.below c.index-spots-number.is in
+    keeper_found all namespace c.args.spots.now c.args.number spot here c.args.number spot here (c.requires.own spot here) refl c.in-Damaged.found
+    (subst (IsBackThere all c.args.spots.now namespace c.args.number spot) c.in-Damaged.is (c.in_ok-read.ensures.there tells spot here))

@@ -1,16 +1,18 @@
-use Rattle.std.proofs.Common.{◌≡◌, ℕ, IsTrue, false, true, List, Option, None, Some, Ok, refl, sym, ap, subst, ◌∙◌, inl, inr, arith}
+use Rattle.std.proofs.Common.{◌≡◌, ℕ, IsTrue, true, List, Option, None, Some, Ok, refl, sym, ap, subst, ◌∙◌, inl, inr, arith}
 use Rattle.std.specs.Prelude.{IfSome}
 use Rattle.capture.specs.declared.book.Book.{Book}
 use Rattle.capture.specs.declared.captured.Brought.{Brought}
 use Rattle.warc_journal.specs.Journals.{texts}
 use Rattle.archive_volumes.proofs.BringLaws.{damaged, damaged_read, has_head, keeper_keeps, keeps_payload, named, no_digest, placed_on, reads_itself, reads_then, refers_to, replayable, right_read, same_brought, spots_on, within_on}
+use Rattle.archive_volumes.proofs.DamageLaws.{found_on, keeper_found, other_found, revisit_found}
 use Rattle.archive_volumes.proofs.DigestLaws.{alike, differ, keeper_goes, one_spot, same_digest}
 use Rattle.archive_volumes.proofs.GroupLaws.{got}
 use Rattle.archive_volumes.specs.Bringing.{BringsFrom, IsChecked, IsReadRight}
 use Rattle.archive_volumes.specs.Digests.{BringsDigest, GoesByKeeper}
 use Rattle.archive_volumes.specs.Decoding.{IsHead, IsHeadAt}
 use Rattle.archive_volumes.specs.Held.{book_of}
-use Rattle.archive_volumes.specs.Spots.{head_in}
+use Rattle.archive_volumes.specs.Rereading.{IsBackThere}
+use Rattle.archive_volumes.specs.Spots.{head_in, is_same_form}
 use Rattle.archive_volumes.specs.declared.payload.ReadBack.{ReadBack}
 use Rattle.archive_volumes.specs.declared.spot.Spot.{Spot}
 use Rattle.archive_volumes.proofs.volumes.Volumes.bring_same.Goals as goal
@@ -214,3 +216,43 @@ returns-in_ok-brought-in-Ok-clause-own g c other at =
     subst (λ (b : Brought). BringsDigest other.digest (Ok b)) (sym c.in_ok-brought-in-Ok.ensures)
     ((subst (λ (r : ReadBack). IsChecked keeper.digest r) (right_read c.in_ok-read.read c.in-Ok.payload (sym c.payload_of.ensures ∙ c.in-Ok.is)).1 (c.in_ok-read.ensures.checked keeper there)).1 ∙ same
     ∙ ap (λ (s : Spot). s.digest) (one_spot c.args.spots.now c.args.number spot other here at))
+
+pub returns-then-ne-clause-found : goal.returns-then-ne-clause-found
+returns-then-ne-clause-found g c tells =
+    let book = book_of c.args.self.now.held in
+    let spot = c.index-spots-number.result in
+    let here = got c.args.spots.now c.args.number spot c.requires.below c.index-spots-number.is in
+    let its = c.requires.spots.each c.args.number spot here in
+    let form = c.requires.form spot here in
+    let refers = refers_to book c.args.number spot its c.args.first form in
+    let keeper = c.index-spots-first.result in
+    let there = got c.args.spots.now c.args.first keeper (omega (arith, refers.0, c.requires.below)) c.index-spots-first.is in
+    let own = keeper_keeps book c.args.number spot its c.args.first form keeper (c.requires.spots.each c.args.first keeper there) in
+    other_found (texts g.D.Disk c.args.self.now.journal) book.namespace c.args.spots.now c.args.number spot here c.args.first keeper there own
+    (λ same. differ keeper.digest spot.digest c.ne.result c.ne.ensures c.if-ne.true (ap Some (sym same)))
+
+pub returns-in-None-clause-found : goal.returns-in-None-clause-found
+returns-in-None-clause-found g c tells =
+    let spot = c.index-spots-number.result in
+    let here = got c.args.spots.now c.args.number spot c.requires.below c.index-spots-number.is in
+    revisit_found (texts g.D.Disk c.args.self.now.journal) (book_of c.args.self.now.held).namespace c.args.spots.now c.args.number spot here
+    (ap is_same_form (c.requires.form spot here))
+
+pub returns-in-Err-clause-found : goal.returns-in-Err-clause-found
+returns-in-Err-clause-found g c tells =
+    let book = book_of c.args.self.now.held in
+    let spot = c.index-spots-number.result in
+    let here = got c.args.spots.now c.args.number spot c.requires.below c.index-spots-number.is in
+    let its = c.requires.spots.each c.args.number spot here in
+    let form = c.requires.form spot here in
+    let refers = refers_to book c.args.number spot its c.args.first form in
+    let keeper = c.index-spots-first.result in
+    let there = got c.args.spots.now c.args.first keeper (omega (arith, refers.0, c.requires.below)) c.index-spots-first.is in
+    let own = keeper_keeps book c.args.number spot its c.args.first form keeper (c.requires.spots.each c.args.first keeper there) in
+    let later = c.read_head.new.self in
+    let damaged_is = damaged_read c.in_ok-read.read c.in-Err.found (sym c.payload_of.ensures ∙ c.in-Err.is) in
+    keeper_found (texts g.D.Disk c.args.self.now.journal) book.namespace c.args.spots.now c.args.number spot here c.args.first keeper there own
+    (alike keeper.digest spot.digest c.ne.result c.ne.ensures c.if-ne.false) c.in-Err.found
+    (found_on g.D.Disk c.args.self.now later c.read_head.ensures.reads tells c.args.spots.now c.args.first keeper c.in-Err.found
+    (subst (IsBackThere (texts g.D.Disk later.journal) c.args.spots.now (book_of later.held).namespace c.args.first keeper) damaged_is
+    (c.in_ok-read.ensures.there tells keeper there)))

@@ -147,5 +147,5 @@ returns-in_ok-brought-in-Some-found-clause-there g c tells other at =
     subst (IsBroughtThere all namespace c.args.number other) (sym c.in_ok-brought-in-Some-found.ensures)
     (subst (λ (s : Spot). IsBroughtThere all namespace c.args.number s (brought_of spot c.in-Some.revisit.head c.in-Some-found.payload))
     (one_spot c.args.spots.now c.args.number spot other here at)
-    (same_brought_there all namespace c.args.number spot c.in-Some.revisit.head c.in-Some-found.payload c.in-Some.revisit.same (ap is_same_form (c.requires.form spot here))
-    (subst (IsRereadThere all namespace c.args.number spot) (revisit_read c.in_ok-read.read c.in-Some.revisit (sym c.revisit_in.ensures ∙ c.in-Some.is)) (c.in_ok-read.ensures.there tells spot here))))
+    (same_brought_there all c.args.spots.now namespace c.args.number spot c.in-Some.revisit.head c.in-Some-found.payload c.in-Some.revisit.same (ap is_same_form (c.requires.form spot here))
+    (subst (IsRereadThere all c.args.spots.now namespace c.args.number spot) (revisit_read c.in_ok-read.read c.in-Some.revisit (sym c.revisit_in.ensures ∙ c.in-Some.is)) (c.in_ok-read.ensures.there tells spot here))))

@@ -1,9 +1,11 @@
 use Rattle.archive_volumes.proofs.RereadLaws.{chosen_on}
-use Rattle.std.proofs.Common.{false, Ok, get_or, refl, ap, subst, ◌∙◌, arith}
+use Rattle.std.proofs.Common.{Option, ℕ, false, Ok, get_or, refl, ap, subst, ◌∙◌, arith}
 use Rattle.capture.specs.declared.book.Book.{Book}
+use Rattle.warc_journal.specs.Journals.{texts}
 use Rattle.archive_shelf.specs.Comparing.{HasWhole}
 use Rattle.archive_volumes.proofs.BringLaws.{made_on, placed_on, reads_then, spots_on, within_on}
 use Rattle.archive_volumes.proofs.ChooseLaws.{none_more}
+use Rattle.archive_volumes.proofs.DamageLaws.{damage_exit, damage_on, passed_more, passed_on}
 use Rattle.archive_volumes.specs.Choosing.{Asks}
 use Rattle.archive_volumes.specs.Held.{book_of}
 use Rattle.archive_volumes.proofs.volumes.Volumes.choose.Goals as goal
@@ -52,6 +54,11 @@ loop-candidate-preserved g c =
           (c.in_ok-has.ensures.asks payload is) in
           none_more (book_of c.args.self.now.held) candidates index (get_or candidates index 0) payload refl (c.loop-candidate.invariant.none payload is told)
           (subst (λ (b : Book). ¬ (HasWhole b (get_or candidates index 0) payload)) (ap book_of reads.held) (asks told));
+      passed = λ payload is.
+          passed_more g.D.Disk.tells (texts g.D.Disk c.args.self.now.journal) (book_of c.args.self.now.held).namespace c.args.spots.now candidates payload index
+          (c.loop-candidate.invariant.passed payload is)
+          (passed_on g.D.Disk c.args.self.now c.loop-candidate.self reads c.args.spots.now payload (get_or candidates index 0)
+          (c.in_ok-has.ensures.passes payload is c.if-has.false));
     }
 
 pub returns-clause-chooses : goal.returns-clause-chooses
@@ -62,3 +69,18 @@ pub returns-then-has-clause-there : goal.returns-then-has-clause-there
 returns-then-has-clause-there g c tells payload is =
     chosen_on g.D.Disk c.args.self.now c.loop-candidate.self c.loop-candidate.invariant.reads tells c.args.spots.now payload _
     (c.in_ok-has.ensures.there tells payload is c.if-has.true)
+
+pub returns-in_err-has-clause-damage : goal.returns-in_err-has-clause-damage
+returns-in_err-has-clause-damage g c =
+    let old = c.args.self.now in
+    damage_exit (Option ℕ) g.D.Disk.tells (texts g.D.Disk old.journal) (book_of old.held).namespace c.args.spots.now c.in_err-has.field-0.0
+    c.from_residual.result c.from_residual.ensures.1
+    (damage_on g.D.Disk old c.loop-candidate.self c.loop-candidate.invariant.reads c.args.spots.now c.in_err-has.field-0.0 c.in_err-has.ensures.damage)
+
+pub returns-then-has-clause-passes : goal.returns-then-has-clause-passes
+returns-then-has-clause-passes g c payload is =
+    (c.loop-candidate.candidate-index, omega (arith, c.loop-candidate-test.true), refl, c.loop-candidate.invariant.passed payload is)
+
+pub returns-clause-passes : goal.returns-clause-passes
+returns-clause-passes g c payload is k less =
+    c.loop-candidate.invariant.passed payload is k (omega (arith, less, c.loop-candidate-test.false))

@@ -1,9 +1,10 @@
--- No candidate so far has the payload; the disk was only read, and no fault was met.
+-- No candidate so far has the payload, and each is passed over; the disk was only read, and no fault was met.
 use Rattle.std.proofs.Common.{◌≡◌, ℕ, List, IsTrue, false}
 use Rattle.capture.specs.Payload.{IsPayload}
-use Rattle.warc_journal.specs.Journals.{disk_of}
+use Rattle.warc_journal.specs.Journals.{disk_of, texts}
 use Rattle.archive_volumes.specs.Bringing.{OnlyReads}
 use Rattle.archive_volumes.specs.Choosing.{NoneHas}
+use Rattle.archive_volumes.specs.Damage.{ArePassedOver}
 use Rattle.archive_volumes.specs.Held.{book_of}
 use Rattle.archive_volumes.proofs.volumes.Volumes.choose.Given as goal
 
@@ -14,4 +15,6 @@ invariant-loop-candidate g l =
       faults : g.D.Disk.faults (disk_of l.self.journal) ≡ g.D.Disk.faults (disk_of l.fn.self.journal);
       none : (payload : List ℕ) → IsPayload false l.fn.framing l.fn.wire payload → IsTrue l.fn.told.value
           → NoneHas (book_of l.fn.self.held) l.fn.candidates l.candidate-index payload;
+      passed : (payload : List ℕ) → IsPayload false l.fn.framing l.fn.wire payload
+          → ArePassedOver g.D.Disk.tells (texts g.D.Disk l.fn.self.journal) (book_of l.fn.self.held).namespace l.fn.spots l.fn.candidates payload l.candidate-index;
     }

@@ -3,6 +3,7 @@ use Rattle.capture.specs.declared.framing.Framing.{Framing}
 use Rattle.warc_journal.specs.Journals.{texts}
 use Rattle.archive_volumes.proofs.BringLaws.{kept_tells, reads_then, texts_stay}
 use Rattle.archive_volumes.proofs.ChooseLaws.{data_right, read_there, same_right, same_there}
+use Rattle.archive_volumes.proofs.DamageLaws.{damage_there, none_there}
 use Rattle.archive_volumes.specs.Bringing.{OnlyReads}
 use Rattle.archive_volumes.specs.Decoding.{TellsFraming}
 use Rattle.archive_volumes.specs.Held.{book_of}
@@ -80,3 +81,22 @@ returns-clause-same g c told payload is =
     read_there (texts g.D.Disk c.args.self.now.journal) spot c.in_ok-head.head.items (rw c.head_place.ensures at c.in_ok-head.ensures.bytes told)
     c.in-Some.kept tells (texts g.D.Disk c.keeps_wire.new.self.journal) (texts_stay g.D.Disk c.args.self.now c.keeps_wire.new.self reads told)
     payload c.requires.whole c.compare_read.result (c.compare_read.ensures.same told payload is)
+
+pub returns-in-None-clause-damage : goal.returns-in-None-clause-damage
+returns-in-None-clause-damage g c told =
+    let spot = c.args.spot.now in
+    let tells : TellsFraming spot.method c.in_ok-head.head.items None =
+    subst (λ (f : Option Framing). TellsFraming spot.method c.in_ok-head.head.items f) c.in-None.is (rw c.as_slice-2.ensures.value at (rw c.as_slice.ensures.value at c.in_ok-kept.ensures)) in
+    none_there (texts g.D.Disk c.args.self.now.journal) spot c.in_ok-head.head.items (rw c.head_place.ensures at c.in_ok-head.ensures.bytes told)
+    c.requires.ends tells
+
+pub returns-clause-damage : goal.returns-clause-damage
+returns-clause-damage g c told =
+    let spot = c.args.spot.now in
+    let reads : OnlyReads g.D.Disk c.args.self.now c.keeps_wire.new.self =
+    reads_then g.D.Disk c.args.self.now c.read_part.new.self c.keeps_wire.new.self c.read_part.ensures.reads c.keeps_wire.ensures.reads in
+    let tells : TellsFraming spot.method c.in_ok-head.head.items (Some c.in-Some.kept) =
+    subst (λ (f : Option Framing). TellsFraming spot.method c.in_ok-head.head.items f) c.in-Some.is (rw c.as_slice-2.ensures.value at (rw c.as_slice.ensures.value at c.in_ok-kept.ensures)) in
+    damage_there (texts g.D.Disk c.args.self.now.journal) spot c.in_ok-head.head.items (rw c.head_place.ensures at c.in_ok-head.ensures.bytes told)
+    c.in-Some.kept tells (texts g.D.Disk c.keeps_wire.new.self.journal) (texts_stay g.D.Disk c.args.self.now c.keeps_wire.new.self reads told)
+    c.compare_read.result (c.compare_read.ensures.damage told)

@@ -37,7 +37,7 @@ returns-in-None-clause-within g c tells =
     let volume = c.volume_at-volume.ensures one.0 one.1 in
     if_ok_so (λ (len : ℕ). len ≡ length (text_at all c.volume_at-volume.result)) (EndsWithin all c.args.spots.now c.args.number) c.text_len.result
     (c.text_len.ensures.len tells)
-    (λ len is. within_text all c.args.spots.now c.args.number one.0 one.1 len (is ∙ ap (λ (v : ℕ). length (text_at all v)) volume))
+    (λ len is. within_text all c.args.spots.now c.args.number one.0 one.1 (c.requires.within tells) len (is ∙ ap (λ (v : ℕ). length (text_at all v)) volume))
 
 pub returns-in-Some-clause-end : goal.returns-in-Some-clause-end
 returns-in-Some-clause-end g c told =

@@ -1,11 +1,13 @@
 use Rattle.std.proofs.lemmas.Bool.{false≢true}
-use Rattle.std.proofs.Common.{◌≡◌, IsTrue, false, refl, sym, ap, subst, ◌∙◌}
+use Rattle.std.proofs.Common.{◌≡◌, IsTrue, false, inl, refl, sym, ap, subst, ◌∙◌}
 use Rattle.std.proofs.lemmas.Option.{same_Some}
 use Rattle.warc_journal.specs.Journals.{texts}
 use Rattle.archive_volumes.proofs.BringLaws.{damaged, within_at}
 use Rattle.archive_volumes.proofs.ChooseLaws.{has_whole, its_bound, its_kept, its_spot, its_told, its_whole, its_wire}
+use Rattle.archive_volumes.proofs.DamageLaws.{read_damage}
 use Rattle.archive_volumes.proofs.GroupLaws.{got}
-use Rattle.archive_volumes.specs.Choosing.{ComparesWith, IsComparison, OnSame}
+use Rattle.archive_volumes.specs.Bringing.{DecodesThere}
+use Rattle.archive_volumes.specs.Choosing.{ComparesWith, IsComparison, IsOther, OnDamage, OnSame}
 use Rattle.archive_volumes.specs.Decoding.{Decodes}
 use Rattle.archive_volumes.specs.Held.{book_of}
 use Rattle.archive_volumes.specs.Spots.{head_in, is_told_form, wire_in}
@@ -90,3 +92,20 @@ returns-in-Same-clause-there g c tells payload is has =
           (subst (λ (r : Compared). OnSame r (Decodes false spot.method (head_in all spot) (wire_in all spot) payload)) c.in-Same.is
           (c.in_ok-answer.ensures.same tells payload is));
     }
+
+pub returns-in-Damaged-clause-damage : goal.returns-in-Damaged-clause-damage
+returns-in-Damaged-clause-damage g c =
+    let book = book_of c.args.self.now.held in
+    let spot = c.index-spots-number.result in
+    let all = texts g.D.Disk c.args.self.now.journal in
+    let here = got c.args.spots.now c.args.number spot (its_bound book c.args.spots.now c.requires.spots c.args.number c.requires.whole) c.index-spots-number.is in
+    read_damage all c.args.spots.now book.namespace c.args.number spot g.D.Disk.tells here c.in-Damaged.found (sym c.is_told.ensures ∙ c.if-is_told.false)
+    (λ tells. subst (λ (r : Compared). OnDamage r (DecodesThere all spot)) c.in-Damaged.is (c.in_ok-answer.ensures.damage tells))
+
+pub returns-in-Other-clause-passes : goal.returns-in-Other-clause-passes
+returns-in-Other-clause-passes g c payload is _ other at =
+    let book = book_of c.args.self.now.held in
+    let spot = c.index-spots-number.result in
+    let here = got c.args.spots.now c.args.number spot (its_bound book c.args.spots.now c.requires.spots c.args.number c.requires.whole) c.index-spots-number.is in
+    inl (subst (λ (s : Spot). IsOther s.digest payload) (same_Some spot other (sym here ∙ at))
+    (subst (λ (r : Compared). IsComparison spot.digest payload r) c.in-Other.is (c.in_ok-answer.ensures.comparison payload is)))

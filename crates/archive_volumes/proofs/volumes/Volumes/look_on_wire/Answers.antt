@@ -4,8 +4,10 @@ use Rattle.sha1.specs.Sha1.{sha1}
 use Rattle.revisit_table.specs.Table.{numbers_of}
 use Rattle.warc_journal.specs.Journals.{texts}
 use Rattle.archive_shelf.specs.declared.fault.StoreFault.{StoreFault}
+use Rattle.archive_shelf.specs.declared.looked.Looked.{Looked}
 use Rattle.archive_volumes.proofs.BringLaws.{reads_itself}
 use Rattle.archive_volumes.proofs.ChooseLaws.{candidates_whole, chosen_kept, looks_err, looks_exit, right_chosen, right_empty, right_found, since_by}
+use Rattle.archive_volumes.proofs.DamageLaws.{damage_exit}
 use Rattle.archive_volumes.proofs.SinceLaws.{since_exit}
 use Rattle.archive_volumes.specs.Held.{book_of}
 use Rattle.archive_volumes.specs.Spots.{whole_from}
@@ -65,3 +67,11 @@ returns-then-has_no_bytes-clause-reads g c = reads_itself g.D.Disk c.args.self.n
 
 pub returns-in-Some-clause-reads : goal.returns-in-Some-clause-reads
 returns-in-Some-clause-reads g c = reads_itself g.D.Disk c.args.self.now
+
+pub returns-in_err-same-in-None-clause-damage : goal.returns-in_err-same-in-None-clause-damage
+returns-in_err-same-in-None-clause-damage g c =
+    damage_exit Looked g.D.Disk.tells (texts g.D.Disk c.args.self.now.journal) (book_of c.args.self.now.held).namespace c.args.spots.now
+    c.in_err-same-in-None.field-0.0 c.from_residual.result c.from_residual.ensures.1 c.in_err-same-in-None.ensures.damage
+
+pub returns-then-has_no_bytes-clause-passes : goal.returns-then-has_no_bytes-clause-passes
+returns-then-has_no_bytes-clause-passes g c payload is some _ = absurd (some ((c.has_no_bytes.ensures payload is).0 c.if-has_no_bytes.true))

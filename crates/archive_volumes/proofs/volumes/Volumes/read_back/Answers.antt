@@ -1,7 +1,8 @@
 use Rattle.std.proofs.Common.{◌≡◌, ℕ, List, Option, Some, None, sym, subst, ◌∙◌}
 use Rattle.warc_journal.specs.Journals.{texts}
 use Rattle.archive_volumes.proofs.BringLaws.{kept_tells, read_right, reads_then, texts_stay}
-use Rattle.archive_volumes.specs.Bringing.{IsReadRight}
+use Rattle.archive_volumes.proofs.DamageLaws.{checked_there, none_there}
+use Rattle.archive_volumes.specs.Bringing.{FindsThere, IsReadRight}
 use Rattle.archive_volumes.specs.Decoding.{HoldsPayload, TellsFraming}
 use Rattle.archive_volumes.specs.Held.{book_of}
 use Rattle.archive_volumes.specs.Spots.{head_in, is_cut_form, wire_in}
@@ -41,3 +42,25 @@ returns-in-None-clause-right g c number told kept =
     subst (λ (f : Option _). TellsFraming spot.method c.in_ok-head.head.items f) c.in-None.is (rw c.as_slice-2.ensures.value at (rw c.as_slice.ensures.value at c.in_ok-framing.ensures)) in
     kept_tells (texts g.D.Disk c.args.self.now.journal) (book_of c.args.self.now.held) number spot kept
     (subst (λ (h : List ℕ). TellsFraming spot.method h None) head tells)
+
+pub returns-in-None-clause-found : goal.returns-in-None-clause-found
+returns-in-None-clause-found g c told =
+    let spot = c.args.spot.now in
+    let tells : TellsFraming spot.method c.in_ok-head.head.items None =
+    subst (λ (f : Option _). TellsFraming spot.method c.in_ok-head.head.items f) c.in-None.is (rw c.as_slice-2.ensures.value at (rw c.as_slice.ensures.value at c.in_ok-framing.ensures)) in
+    none_there (texts g.D.Disk c.args.self.now.journal) spot c.in_ok-head.head.items (rw c.head_place.ensures at c.in_ok-head.ensures.bytes told)
+    c.requires.ends tells
+
+pub returns-clause-found : goal.returns-clause-found
+returns-clause-found g c told =
+    let spot = c.args.spot.now in
+    let all = texts g.D.Disk c.args.self.now.journal in
+    let same = texts_stay g.D.Disk c.args.self.now c.read_part.new.self c.read_part.ensures.reads told in
+    let head : c.in_ok-head.head.items ≡ head_in all spot = (rw c.head_place.ensures at c.in_ok-head.ensures.bytes told) in
+    let tells : TellsFraming spot.method c.in_ok-head.head.items (Some c.in-Some.framing) =
+    subst (λ (f : Option _). TellsFraming spot.method c.in_ok-head.head.items f) c.in-Some.is (rw c.as_slice-2.ensures.value at (rw c.as_slice.ensures.value at c.in_ok-framing.ensures)) in
+    subst (FindsThere all spot) (sym c.checked.ensures)
+    (checked_there all spot c.of.result (c.of.ensures ∙ head) c.in-Some.framing
+    (subst (λ (h : List ℕ). TellsFraming spot.method h (Some c.in-Some.framing)) (sym c.of.ensures) tells) c.in_ok-found.found
+    (subst (λ (t : List (List ℕ)). HoldsPayload (is_cut_form spot.form) c.in-Some.framing (wire_in t spot) c.in_ok-found.found) same
+    (c.in_ok-found.ensures.payload told)))

@@ -1,12 +1,12 @@
 use Rattle.archive_volumes.specs.Rereading.{IsBackThere}
 use Rattle.warc_journal.specs.Journals.{texts}
-use Rattle.std.proofs.lemmas.Bool.{false≢true}
-use Rattle.std.proofs.Common.{◌≡◌, false, sym, subst, ◌∙◌, ap}
+use Rattle.std.proofs.Common.{◌≡◌, true, false, sym, subst, ◌∙◌, ap}
 use Rattle.std.specs.Prelude.{IfOk}
+use Rattle.archive_volumes.proofs.DamageLaws.{back_there}
 use Rattle.archive_volumes.proofs.DigestLaws.{one_spot}
-use Rattle.archive_volumes.proofs.GroupLaws.{got}
+use Rattle.archive_volumes.proofs.GroupLaws.{got, if_ok_so}
 use Rattle.archive_volumes.proofs.RereadLaws.{own_checked, own_right, own_there}
-use Rattle.archive_volumes.specs.Bringing.{IsChecked, IsReadRight}
+use Rattle.archive_volumes.specs.Bringing.{FindsThere, IsChecked, IsReadRight}
 use Rattle.archive_volumes.specs.Held.{book_of}
 use Rattle.archive_volumes.specs.Spots.{is_told_form}
 use Rattle.archive_volumes.specs.declared.spot.Spot.{Spot}
@@ -54,15 +54,23 @@ returns-clause-right g c told =
     (record { is = its; placed = (c.requires.placed told).each c.args.number spot here; own = c.requires.own spot here; read = read })
 
 pub returns-then-is_told-clause-there : goal.returns-then-is_told-clause-there
-returns-then-is_told-clause-there g c tells other at told =
+returns-then-is_told-clause-there g c tells other at =
     let all = texts g.D.Disk c.args.self.now.journal in
     let book = book_of c.args.self.now.held in
-    subst (IsBackThere all book.namespace c.args.number other) (sym c.own_read.ensures)
-    (own_there all book.namespace c.args.number other c.in_ok-read.read (c.in_ok-read.ensures.there tells other at))
+    let spot = c.index-spots-number.result in
+    let here = got c.args.spots.now c.args.number spot c.requires.below c.index-spots-number.is in
+    let told : is_told_form other.form ≡ true =
+    ap (λ (s : Spot). is_told_form s.form) (one_spot c.args.spots.now c.args.number other spot at here) ∙ sym c.is_told.ensures ∙ c.if-is_told.true in
+    subst (IsBackThere all c.args.spots.now book.namespace c.args.number other) (sym c.own_read.ensures)
+    (own_there all c.args.spots.now book.namespace c.args.number other told (c.requires.own other at) c.in_ok-read.read (c.in_ok-read.ensures.there tells other at))
 
 pub returns-clause-there : goal.returns-clause-there
-returns-clause-there g c tells other at told =
+returns-clause-there g c tells other at =
+    let all = texts g.D.Disk c.args.self.now.journal in
+    let namespace = (book_of c.args.self.now.held).namespace in
     let spot = c.index-spots-number.result in
     let here = got c.args.spots.now c.args.number spot c.requires.below c.index-spots-number.is in
     let read : is_told_form spot.form ≡ false = sym c.is_told.ensures ∙ c.if-is_told.false in
-    absurd (false≢true (sym read ∙ ap (λ (s : Spot). is_told_form s.form) (one_spot c.args.spots.now c.args.number spot other here at) ∙ told))
+    subst (λ (s : Spot). IfOk c.read_back.result (IsBackThere all c.args.spots.now namespace c.args.number s)) (one_spot c.args.spots.now c.args.number spot other here at)
+    (if_ok_so (FindsThere all spot) (IsBackThere all c.args.spots.now namespace c.args.number spot) c.read_back.result (c.read_back.ensures.found tells)
+    (back_there all c.args.spots.now namespace c.args.number spot read))

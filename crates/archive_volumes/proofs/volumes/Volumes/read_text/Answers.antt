@@ -1,12 +1,12 @@
-use Rattle.std.proofs.Common.{◌≡◌, ◌<◌, ◌+◌, ◌≤◌, ℕ, List, Some, sym, ap, subst, ◌∙◌}
+use Rattle.std.proofs.Common.{◌≡◌, ◌<◌, ◌+◌, ◌≤◌, ℕ, List, Some, arith, sym, ap, subst, ◌∙◌}
 use Rattle.std.specs.Prelude.{length, slice_get}
 use Rattle.warc_journal.specs.Journals.{texts}
 use Rattle.archive_volumes.proofs.BringLaws.{reads_then, texts_stay}
 use Rattle.archive_volumes.proofs.DigestLaws.{one_spot}
 use Rattle.archive_volumes.proofs.GroupLaws.{got, if_ok_both, if_ok_so}
-use Rattle.archive_volumes.proofs.KeptGroupLaws.{begins_is, there, within}
+use Rattle.archive_volumes.proofs.KeptGroupLaws.{begins_is, reaches_on, there, within}
 use Rattle.archive_volumes.specs.Held.{book_of}
-use Rattle.archive_volumes.specs.Rereading.{BeginWithText, from_place}
+use Rattle.archive_volumes.specs.Rereading.{BeginWithText, Reaches, from_place}
 use Rattle.archive_volumes.specs.Spots.{part, text_at}
 use Rattle.archive_volumes.specs.declared.spot.Spot.{Spot}
 use Rattle.archive_volumes.proofs.volumes.Volumes.read_text.Goals as goal
@@ -61,3 +61,14 @@ returns-clause-bytes g c tells other at =
     c.read_part.ensures.length
     (λ bytes is long. is ∙ ap (λ (t : List (List ℕ)). part (text_at t spot.volume) spot.at c.saturating_sub.result) same
     ∙ ap (from_place all spot) (sym long) ∙ ap (λ (s : Spot). from_place all s (length bytes.items)) one)
+
+pub returns-clause-reaches : goal.returns-clause-reaches
+returns-clause-reaches g c tells other at =
+    let spot = c.index-spots-number.result in
+    let all = texts g.D.Disk c.args.self.now.journal in
+    let here : slice_get c.args.spots.now c.args.number ≡ Some spot = got c.args.spots.now c.args.number spot c.requires.below c.index-spots-number.is in
+    let one : spot ≡ other = one_spot c.args.spots.now c.args.number spot other here at in
+    if_ok_so _ (λ bytes. Reaches all c.args.spots.now c.args.number other (other.at + length bytes.items)) c.read_part.result c.read_part.ensures.length
+    (λ bytes long. reaches_on all c.args.spots.now c.args.number other c.in_ok-end.end (other.at + length bytes.items)
+    ((c.in_ok-end.ensures.within tells).reaches other at)
+    (omega (arith, long, c.saturating_sub.ensures, ap (λ (s : Spot). s.at) one)))

@@ -26,8 +26,9 @@ returns-clause-there g c tells other at =
     subst (λ (b : List ℕ). IsRereadIn book.namespace c.args.number b spot c.in_ok-read.read) given
     (subst (λ (h : Held). IsRereadIn h.namespace c.args.number c.as_slice.result.now spot c.in_ok-read.read) c.read_text.ensures.reads.held
     c.in_ok-read.ensures.by) in
-    subst (λ (s : Spot). IsRereadThere all book.namespace c.args.number s c.in_ok-read.read) (one_spot c.args.spots.now c.args.number spot other here at)
-    (reread_at all book.namespace c.args.number c.in_ok-bytes.bytes.items spot c.in_ok-read.read (c.in_ok-bytes.ensures.bytes tells spot here) read)
+    subst (λ (s : Spot). IsRereadThere all c.args.spots.now book.namespace c.args.number s c.in_ok-read.read) (one_spot c.args.spots.now c.args.number spot other here at)
+    (reread_at all c.args.spots.now book.namespace c.args.number c.in_ok-bytes.bytes.items spot c.in_ok-read.read
+    (c.in_ok-bytes.ensures.reaches tells spot here) (c.in_ok-bytes.ensures.bytes tells spot here) read)
 
 pub returns-clause-right : goal.returns-clause-right
 returns-clause-right g c told =
