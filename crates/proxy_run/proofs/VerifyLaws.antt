@@ -135,36 +135,32 @@ pub broke_off : {D O : Type 0} (disks : Disks D) (sinks : Sinks O) (plan : Plan)
     → (rest : List VolumeFacts) × HasChecked disks.tells (disks.reading was) plan rest report → Rose (disks.faults was) (disks.faults is)
     → lines ≡ report.lines.items ++ codes "disk fault\n" → Prints sinks Archive lines out_was out_is status
     → ChecksVolumes disks sinks plan.namespace plan.volumes.items was is out_was out_is status
-broke_off disks sinks plan report lines was is out_was out_is status (rest, has) rose put printed = inr (inl (record {
-  checked = has.checked;
-  rest = rest;
-  front = has.front;
-  right = has.right;
-  rose = rose;
-  printed = subst (λ (l : List ℕ). Prints sinks Archive l out_was out_is status)
-      (put ∙ ap (λ (l : List ℕ). l ++ codes "disk fault\n") has.lines_are) printed;
-}))
+broke_off disks sinks plan report lines was is out_was out_is status (rest, has) rose put printed = inl (
+  has.checked,
+  rest,
+  has.front,
+  has.right,
+  inr (
+    rose,
+    subst (λ (l : List ℕ). Prints sinks Archive l out_was out_is status) (put ∙ ap (λ (l : List ℕ). l ++ codes "disk fault\n") has.lines_are) printed,
+  ),
+)
 
 -- what was checked on a disk that was given back as it was
 checks_from : {D O : Type 0} (disks : Disks D) (sinks : Sinks O) (namespace : List ℕ) (volumes : List VolumeFacts) (was closed is : D) (out_was out_is : O) (status : Status)
     → (IsTrue disks.tells → disks.reading closed ≡ disks.reading was) → disks.faults closed ≡ disks.faults was
     → ChecksVolumes disks sinks namespace volumes closed is out_was out_is status → ChecksVolumes disks sinks namespace volumes was is out_was out_is status
-checks_from disks sinks namespace volumes was closed is out_was out_is status read faults (inl all) = inl (record {
-  checked = all.checked;
-  all = all.all;
-  right = λ told. subst (λ (i : Image). All (IsRight namespace (length volumes) i) all.checked) (read told) (all.right told);
-  same_faults = all.same_faults ∙ faults;
-  printed = all.printed;
-})
-checks_from disks sinks namespace volumes was closed is out_was out_is status read faults (inr (inl front)) = inr (inl (record {
-  checked = front.checked;
-  rest = front.rest;
-  front = front.front;
-  right = λ told. subst (λ (i : Image). All (IsRight namespace (length volumes) i) front.checked) (read told) (front.right told);
-  rose = subst (λ (n : ℕ). Rose n (disks.faults is)) faults front.rose;
-  printed = front.printed;
-}))
-checks_from disks sinks namespace volumes was closed is out_was out_is status read faults (inr (inr lacks)) = inr (inr lacks)
+checks_from disks sinks namespace volumes was closed is out_was out_is status read faults (inl (checked, rest, front, right, ends)) = inl (
+  checked,
+  rest,
+  front,
+  λ told. subst (λ (i : Image). All (IsRight namespace (length volumes) i) checked) (read told) (right told),
+  ⊎_elim
+      (λ all. inl (all.0, all.1 ∙ faults, all.2))
+      (λ failed. inr (subst (λ (n : ℕ). Rose n (disks.faults is)) faults failed.0, failed.1))
+      ends,
+)
+checks_from disks sinks namespace volumes was closed is out_was out_is status read faults (inr lacks) = inr lacks
 
 -- an archive that was opened
 module _ {D O : Type 0} (disks : Disks D) (sinks : Sinks O) (known : Option Book) (was closed : D) (held : Holdings D)
@@ -194,4 +190,4 @@ module _ {D O : Type 0} (disks : Disks D) (sinks : Sinks O) (known : Option Book
 
   -- there was no memory to say what is due
   pub not_planned : IsVerified disks sinks (by_checkpoints was None known) closed (printed_as out_was out_opened Memory)
-  not_planned = verified closed out_opened Memory read (inr (inr (record { status_is = refl; same = silent })))
+  not_planned = verified closed out_opened Memory read (inr (record { status_is = refl; same = silent }))

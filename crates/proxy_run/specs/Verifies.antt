@@ -64,31 +64,17 @@ IsRight namespace count image c = IsVerdict (due_in namespace count c.facts) (fi
 
 -- ---- the command
 
--- The verdicts on volumes of this namespace are those on the bytes that a read gives.
-abbrev pub AreRight : {D : Type 0} → Disks D → (namespace : List ℕ) → (volumes : List VolumeFacts) → D → List Checked → Type 0
-AreRight disks namespace volumes was checked = IsTrue disks.tells → All (IsRight namespace (length volumes) (disks.reading was)) checked
-
 module _ {D O : Type 0} (disks : Disks D) (sinks : Sinks O) (namespace : List ℕ) (volumes : List VolumeFacts) (was is : D) (out_was out_is : O) (status : Status) where
-  -- Each of the volumes was checked, in order, and its line printed.
-  pub record ChecksAll : Type 0 where
-    pub checked : List Checked
-    pub all : facts_in checked ≡ volumes
-    pub right : AreRight disks namespace volumes was checked
-    pub same_faults : disks.faults is ≡ disks.faults was
-    pub printed : Prints sinks (if has_damage checked then Archive else Done) (lines_of checked) out_was out_is status
-
-  -- The disk failed behind the check of the first of them, whose lines were printed before that was told.
-  pub record BreaksOff : Type 0 where
-    pub checked : List Checked
-    pub rest : List VolumeFacts
-    pub front : facts_in checked ++ rest ≡ volumes
-    pub right : AreRight disks namespace volumes was checked
-    pub rose : Rose (disks.faults was) (disks.faults is)
-    pub printed : Prints sinks Archive (lines_of checked ++ codes "disk fault\n") out_was out_is status
-
-  -- one of the two, or there was no memory
+  -- The first of the volumes were checked, in order: the verdicts are those on the bytes that a read gives, and their lines were printed. Each was checked, or the
+  -- disk failed behind them, which was told then. Or there was no memory.
   abbrev pub ChecksVolumes : Type 0
-  ChecksVolumes = ChecksAll ⊎ BreaksOff ⊎ LacksMemory sinks out_was out_is status
+  ChecksVolumes =
+      ((checked : List Checked) × (rest : List VolumeFacts) × (facts_in checked ++ rest ≡ volumes)
+      × (IsTrue disks.tells → All (IsRight namespace (length volumes) (disks.reading was)) checked)
+      × (((rest ≡ []) × (disks.faults is ≡ disks.faults was)
+      × Prints sinks (if has_damage checked then Archive else Done) (lines_of checked) out_was out_is status)
+      ⊎ (Rose (disks.faults was) (disks.faults is) × Prints sinks Archive (lines_of checked ++ codes "disk fault\n") out_was out_is status)))
+      ⊎ LacksMemory sinks out_was out_is status
 
 -- The archive was opened, and its volumes were checked. What is due in them is told by bytes alone, whatever is known (`lined`), and a read gives what it gave.
 pub record IsVerified {D O : Type 0} (disks : Disks D) (sinks : Sinks O) (opening : Opening D) (is : D) (output : Printed O) : Type 0 where
