@@ -9,10 +9,9 @@ use Rattle.archive_volumes.specs.declared.volume_facts.VolumeFacts.{VolumeFacts}
 use Rattle.disk_model.specs.Image.{Image, file_of}
 use Rattle.disk_model.specs.declared.kind.Kind.TheVariants.{Warc}
 use Rattle.fixity.proofs.OneVerdict.{one_verdict}
-use Rattle.fixity.specs.Verdicts.{IsVerdict}
 use Rattle.proxy_run.proofs.SoundVolumes.{facts_long}
 use Rattle.proxy_run.specs.Verified.{VolumesVerifyOneWay}
-use Rattle.proxy_run.specs.Verifies.{Checked, IsRight, due_in, facts_in}
+use Rattle.proxy_run.specs.Verifies.{Checked, IsRight, facts_in}
 
 -- of the same volumes
 same_verdicts : (namespace : List ℕ) (count : ℕ) (image : Image) (xs ys : List Checked) → facts_in xs ≡ facts_in ys
@@ -23,10 +22,10 @@ same_verdicts namespace count image (x ∷ xs) [] same a b = absurd (omega (arit
 same_verdicts namespace count image (x ∷ xs) (y ∷ ys) same a b =
     let P : Checked → Type 0 = IsRight namespace count image in
     let facts : x.facts ≡ y.facts = same_Some x.facts y.facts (ap (λ (l : List VolumeFacts). slice_get l 0) same) in
-    let theirs : IsVerdict (due_in namespace count x.facts) (file_of image Warc x.facts.volume) y.verdict =
-    subst (λ (f : VolumeFacts). IsVerdict (due_in namespace count f) (file_of image Warc f.volume) y.verdict) (sym facts) (All-head P y ys b) in
+    let theirs : IsRight namespace count image (record { facts = x.facts; verdict = y.verdict }) =
+    subst (λ (f : VolumeFacts). IsRight namespace count image (record { facts = f; verdict = y.verdict })) (sym facts) (All-head P y ys b) in
     let verdict : x.verdict ≡ y.verdict =
-    one_verdict (due_in namespace count x.facts) (file_of image Warc x.facts.volume) x.verdict y.verdict (All-head P x xs a) theirs in
+    one_verdict _ (file_of image Warc x.facts.volume) x.verdict y.verdict (All-head P x xs a) theirs in
     let rest : xs ≡ ys = same_verdicts namespace count image xs ys (ap (drop 1) same) (All-tail P x xs a) (All-tail P y ys b) in
     λ i. record { facts = facts i; verdict = verdict i } ∷ rest i
 

@@ -19,7 +19,7 @@ use Rattle.fixity.specs.Verdicts.{GroupStands, InfoEndsAt, IsSoundRest, IsVerdic
 use Rattle.fixity.specs.declared.verdict.Verdict.{Verdict}
 use Rattle.fixity.specs.declared.verdict.Verdict.TheVariants.{Sound}
 use Rattle.proxy_run.specs.Verified.{SoundVolumesVerify}
-use Rattle.proxy_run.specs.Verifies.{Checked, IsRight, due_in, facts_in, has_damage, is_damaged}
+use Rattle.proxy_run.specs.Verifies.{Checked, IsRight, facts_in, has_damage, is_damaged}
 use Rattle.time_text.specs.Texts.{InRange}
 use Rattle.volume_scan.proofs.FoundGroups.{group_found, group_is_found}
 use Rattle.warc_journal.specs.Extents.{warc_files}
@@ -174,7 +174,7 @@ fact_sound image book c stands fact right =
     let count : length (facts_of book) ≡ length book.volumes = facts_long 0 0 book.volumes in
     let stood = volume_stands book stands.sound (warc_files image) c.facts.volume c.facts.first c.facts.count stands.for fact.within fact.first_is fact.count_is in
     let one : c.verdict ≡ Sound stood.0 =
-    one_verdict (due_in book.namespace (length book.volumes) c.facts) (file_of image Warc c.facts.volume) c.verdict (Sound stood.0)
+    one_verdict _ (file_of image Warc c.facts.volume) c.verdict (Sound stood.0)
     (subst (λ n. IsRight book.namespace n image c) count right) stood.1 in
     ap (λ (v : Verdict). is_damaged v) one
 

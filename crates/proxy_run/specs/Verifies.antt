@@ -8,7 +8,7 @@ use Rattle.capture.specs.Faults.{Rose}
 use Rattle.disk_model.specs.Image.{Image, file_of}
 use Rattle.disk_model.specs.declared.disk.Disk.{Ghosts as Disks}
 use Rattle.disk_model.specs.declared.kind.Kind.TheVariants.{Warc}
-use Rattle.fixity.specs.Verdicts.{IsVerdict, Volume, volume_of}
+use Rattle.fixity.specs.Verdicts.{IsVerdict, volume_of}
 use Rattle.fixity.specs.declared.verdict.Verdict.{Verdict}
 use Rattle.fixity.specs.declared.verdict.Verdict.TheVariants.{Sound, Damaged}
 use Rattle.httparse.specs.Ascii.{line_feed}
@@ -54,13 +54,10 @@ abbrev pub has_damage : List Checked → Bool
 has_damage [] = false
 has_damage (c ∷ checked) = is_damaged c.verdict || has_damage checked
 
--- what is due in a volume, of so many that an archive of this namespace has; behind the last one alone a tail may stand
-abbrev pub due_in : (namespace : List ℕ) → (count : ℕ) → VolumeFacts → Volume
-due_in namespace count facts = volume_of facts.volume namespace facts.first facts.count (nat_eq (suc facts.volume) count)
-
--- the verdict is the one on the bytes of the volume's file
+-- the verdict is the one on the bytes of the volume's file, of so many volumes that an archive of this namespace has; behind the last one alone a tail may stand
 abbrev pub IsRight : (namespace : List ℕ) → (count : ℕ) → Image → Checked → Type 0
-IsRight namespace count image c = IsVerdict (due_in namespace count c.facts) (file_of image Warc c.facts.volume) c.verdict
+IsRight namespace count image c =
+    IsVerdict (volume_of c.facts.volume namespace c.facts.first c.facts.count (nat_eq (suc c.facts.volume) count)) (file_of image Warc c.facts.volume) c.verdict
 
 -- ---- the command
 
