@@ -2,6 +2,7 @@
 use crate::call::Call;
 use crate::deed::Deed;
 use crate::disk::{DiskSetting, behind_files, set};
+use crate::ends::{after, kept};
 use crate::outcome::Outcome;
 use crate::reaching::Absent;
 use crate::told::Told;
@@ -20,24 +21,80 @@ pub fn outcome_of_calls<R: Threads + Sync>(
     steps: &[Deed],
     choice: u32,
 ) -> Result<Option<Outcome>, Memory> {
+    let disk = standing(alloc, setting)?;
     let mut outcome = Outcome::new(alloc);
-    let mut disk = standing(alloc, setting)?;
-    for step in steps {
-        if !step.is_due(&outcome) {
-            continue;
+    let caller = Caller { rt, choice };
+    let behind = caller.behind(alloc, &mut outcome, disk, steps);
+    let done = put_left(alloc, &mut outcome, behind, choice);
+    kept(outcome, done)
+}
+
+/// Makes the calls of a disk, and stops it by this choice where a step names none.
+#[derive(Drop)]
+struct Caller<'a, R> {
+    rt: &'a R,
+    choice: u32,
+}
+
+impl<'a, R: Threads + Sync> Caller<'a, R> {
+    /// The disk behind the steps that are due. `None` where one is none.
+    fn behind(
+        &self,
+        alloc: Global,
+        outcome: &mut Outcome,
+        first: MemoryDisk,
+        steps: &[Deed],
+    ) -> Result<Option<MemoryDisk>, Memory> {
+        let mut disk = first;
+        for step in steps {
+            if !step.is_due(outcome) {
+                continue;
+            }
+            disk = match self.step(alloc, outcome, disk, step)? {
+                Some(disk) => disk,
+                None => return Ok(None),
+            };
         }
-        disk = match done(rt, alloc, &mut outcome, disk, step, choice)? {
-            Some(disk) => disk,
-            None => return Ok(None),
-        };
+        Ok(Some(disk))
     }
-    match disk.stop(choice) {
-        Ok(mut left) => {
-            outcome.put_texts(alloc, &mut left)?;
-            Ok(Some(outcome))
+
+    /// Does a step, and puts what it answers. `None` where it is none.
+    fn step(
+        &self,
+        alloc: Global,
+        outcome: &mut Outcome,
+        disk: MemoryDisk,
+        step: &Deed,
+    ) -> Result<Option<MemoryDisk>, Memory> {
+        match Call::of(step.name, step.text.as_slice()) {
+            Some(Call::Fuse(calls)) => Ok(Some(disk.fused(calls))),
+            Some(Call::HalfMake) => Ok(Some(disk.with_half_made_files())),
+            Some(Call::Stop(named)) => Ok(stopped(disk, named.unwrap_or(self.choice))),
+            Some(call) => called(self.rt, alloc, outcome, disk, call),
+            None => Ok(None),
         }
-        Err(_) => Ok(None),
     }
+}
+
+/// Puts the files that a stop by this choice leaves. Whether there is a disk, and it could be stopped.
+fn put_left(
+    alloc: Global,
+    outcome: &mut Outcome,
+    behind: Result<Option<MemoryDisk>, Memory>,
+    choice: u32,
+) -> Result<bool, Memory> {
+    let Some(disk) = behind? else {
+        return Ok(false);
+    };
+    match stopped(disk, choice) {
+        Some(left) => put_texts(alloc, outcome, left),
+        None => Ok(false),
+    }
+}
+
+fn put_texts(alloc: Global, outcome: &mut Outcome, mut disk: MemoryDisk) -> Result<bool, Memory> {
+    let done = outcome.put_texts(alloc, &mut disk);
+    after(done, true)
 }
 
 /// The disk on which the volumes and checkpoints stand, durably. Its calls are numbered from 0 behind that.
@@ -52,26 +109,24 @@ fn standing(alloc: Global, setting: DiskSetting) -> Result<MemoryDisk, Memory> {
     Ok(set(disk, setting))
 }
 
-/// Does a step, and tells what it answers. `None` where it is none.
-fn done<R: Threads + Sync>(
+/// The disk behind a call, of which it is put what it answers.
+fn called<R: Threads + Sync>(
     rt: &R,
     alloc: Global,
     outcome: &mut Outcome,
-    disk: MemoryDisk,
-    step: &Deed,
-    choice: u32,
+    mut disk: MemoryDisk,
+    call: Call,
 ) -> Result<Option<MemoryDisk>, Memory> {
-    match Call::of(step.name, step.text.as_slice()) {
-        Some(Call::Fuse(calls)) => Ok(Some(disk.fused(calls))),
-        Some(Call::HalfMake) => Ok(Some(disk.with_half_made_files())),
-        Some(Call::Stop(named)) => stopped(disk, named.unwrap_or(choice)),
-        Some(call) => {
-            let mut disk = disk;
-            told(rt, alloc, &mut disk, call)?.put(alloc, outcome)?;
-            Ok(Some(disk))
-        }
-        None => Ok(None),
-    }
+    let done = put_answer(alloc, outcome, told(rt, alloc, &mut disk, call));
+    after(done, Some(disk))
+}
+
+fn put_answer(
+    alloc: Global,
+    outcome: &mut Outcome,
+    told: Result<Told, Memory>,
+) -> Result<(), Memory> {
+    told?.put(alloc, outcome)
 }
 
 /// Makes a call, and says what it tells.
@@ -134,9 +189,9 @@ fn write_each(disk: &mut MemoryDisk, kind: Kind, file: u32, at: u64, bytes: &[u8
 }
 
 /// What a stop by this choice leaves. `None` where the disk could not be stopped.
-fn stopped(disk: MemoryDisk, choice: u32) -> Result<Option<MemoryDisk>, Memory> {
+fn stopped(disk: MemoryDisk, choice: u32) -> Option<MemoryDisk> {
     match disk.stop(choice) {
-        Ok(left) => Ok(Some(left)),
-        Err(_) => Ok(None),
+        Ok(left) => Some(left),
+        Err(_) => None,
     }
 }

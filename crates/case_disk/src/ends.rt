@@ -18,3 +18,12 @@ pub fn after<T: Drop>(done: Result<(), Memory>, value: T) -> Result<T, Memory> {
         Err(Memory) => Err(Memory),
     }
 }
+
+/// Whether there is a value, which is let go.
+pub fn is_some<T: Drop>(found: Result<Option<T>, Memory>) -> Result<bool, Memory> {
+    match found {
+        Ok(Some(_)) => Ok(true),
+        Ok(None) => Ok(false),
+        Err(Memory) => Err(Memory),
+    }
+}

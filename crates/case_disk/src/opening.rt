@@ -294,7 +294,9 @@ fn read_next<D: Disk>(
 
 /// Tells what was found.
 fn put_found(alloc: Global, outcome: &mut Outcome, found: Found) -> Result<(), Memory> {
-    put_text(alloc, outcome, found_text(alloc, &found))
+    let text = found_text(alloc, &found);
+    drop(found);
+    put_text(alloc, outcome, text)
 }
 
 fn found_text(alloc: Global, found: &Found) -> Result<String, Memory> {

@@ -38,6 +38,12 @@ impl Outcome {
         self.put(alloc, b"answer ", text)
     }
 
+    /// `answer TEXT`, where there was memory for the text.
+    pub fn put_told(&mut self, alloc: Global, told: Result<String, Memory>) -> Result<(), Memory> {
+        let text = told?;
+        self.put_answer(alloc, text.as_bytes())
+    }
+
     /// `found TEXT`
     pub fn put_found(&mut self, alloc: Global, text: &str) -> Result<(), Memory> {
         self.put(alloc, b"found ", text.as_bytes())
