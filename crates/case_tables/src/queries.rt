@@ -9,6 +9,7 @@ use cdxj_index::{Entry, Index};
 use cdxj_line::read_line;
 use digest32::{base32_of, payload_digest};
 use std::alloc::Global;
+use surt_key::Key;
 
 /// 2024-01-31T12:00:00Z, in milliseconds since 1970.
 const NOON: u64 = 1_706_702_400_000;
@@ -17,8 +18,7 @@ const NOON: u64 = 1_706_702_400_000;
 pub fn query_read(alloc: Global, text: &[u8]) -> Result<Vec<u8>, Memory> {
     match read_query(alloc, text) {
         Ok(query) => query_text(alloc, &query),
-        Err(QueryFault::BadQuery) => told(alloc, b"BadQuery"),
-        Err(QueryFault::Memory) => Err(Memory),
+        Err(fault) => fault_text(alloc, fault),
     }
 }
 
@@ -108,17 +108,32 @@ fn add_line(alloc: Global, index: &mut Index, line: &[u8]) -> Result<bool, Memor
 
 /// The answer from the entries of the index that begin as the query says.
 fn answer_text(alloc: Global, text: &[u8], index: &Index) -> Result<Vec<u8>, Memory> {
-    let query = match read_query(alloc, text) {
-        Ok(query) => query,
-        Err(QueryFault::BadQuery) => return told(alloc, b"BadQuery"),
-        Err(QueryFault::Memory) => return Err(Memory),
-    };
-    let mut entries = Vec::new(alloc);
-    for entry in index.starting(&query.start) {
-        entries.push(entry.copy()?)?;
+    match read_query(alloc, text) {
+        Ok(query) => answer_from(alloc, &query, index),
+        Err(fault) => fault_text(alloc, fault),
     }
-    let answer = answer(alloc, &query, entries.as_slice())?;
+}
+
+fn answer_from(alloc: Global, query: &Query, index: &Index) -> Result<Vec<u8>, Memory> {
+    let mut entries = Vec::new(alloc);
+    put_starting(&mut entries, index, &query.start)?;
+    let answer = answer(alloc, query, entries.as_slice())?;
     told(alloc, answer.as_slice())
+}
+
+/// Puts copies of the entries whose key begins so.
+fn put_starting(out: &mut Vec<Entry>, index: &Index, start: &Key) -> Result<(), Memory> {
+    for entry in index.starting(start) {
+        out.push(entry.copy()?)?;
+    }
+    Ok(())
+}
+
+fn fault_text(alloc: Global, fault: QueryFault) -> Result<Vec<u8>, Memory> {
+    match fault {
+        QueryFault::BadQuery => told(alloc, b"BadQuery"),
+        QueryFault::Memory => Err(Memory),
+    }
 }
 
 /// The length and the digest of what a query is answered from many entries. Before it stands how many there are.
@@ -136,20 +151,32 @@ pub fn many_answered(alloc: Global, text: &[u8]) -> Result<Option<Vec<u8>>, Memo
 }
 
 fn answer_size(alloc: Global, text: &[u8], count: u32) -> Result<Vec<u8>, Memory> {
-    let query = match read_query(alloc, text) {
-        Ok(query) => query,
-        Err(QueryFault::BadQuery) => return told(alloc, b"BadQuery"),
-        Err(QueryFault::Memory) => return Err(Memory),
-    };
-    let mut entries = Vec::new(alloc);
-    for number in 0..count {
-        entries.push(page_of(alloc, number)?)?;
+    match read_query(alloc, text) {
+        Ok(query) => size_of_answer(alloc, &query, count),
+        Err(fault) => fault_text(alloc, fault),
     }
-    let answer = answer(alloc, &query, entries.as_slice())?;
+}
+
+fn size_of_answer(alloc: Global, query: &Query, count: u32) -> Result<Vec<u8>, Memory> {
+    let mut entries = Vec::new(alloc);
+    put_pages(alloc, &mut entries, count)?;
+    let answer = answer(alloc, query, entries.as_slice())?;
+    length_and_digest(alloc, answer.as_slice())
+}
+
+fn length_and_digest(alloc: Global, text: &[u8]) -> Result<Vec<u8>, Memory> {
     let mut out = Vec::new(alloc);
-    put_number(&mut out, answer.as_slice().len() as u64)?;
-    put_next(&mut out, &base32_of(&payload_digest(answer.as_slice())))?;
+    put_number(&mut out, text.len() as u64)?;
+    put_next(&mut out, &base32_of(&payload_digest(text)))?;
     Ok(out)
+}
+
+/// Puts the entries of so many pages.
+fn put_pages(alloc: Global, out: &mut Vec<Entry>, count: u32) -> Result<(), Memory> {
+    for number in 0..count {
+        out.push(page_of(alloc, number)?)?;
+    }
+    Ok(())
 }
 
 /// The entry of a page of its own, each a second behind the one before it.
