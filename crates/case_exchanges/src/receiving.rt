@@ -3,7 +3,7 @@ use capture::Memory;
 use case_messages::{fault_shown, request_shown};
 use case_texts::told;
 use exchange::{Came, Window, receive_request};
-use http_wire::RequestReader;
+use http_wire::{RequestMessage, RequestReader};
 use outside::Link;
 use std::alloc::Global;
 
@@ -33,14 +33,25 @@ fn next_text<L: Link>(
     let mut reader = RequestReader::new(alloc);
     match receive_request(alloc, link, window, &mut reader) {
         Came::Head => match receive_request(alloc, link, window, &mut reader) {
-            Came::Whole => match reader.take(alloc) {
-                Ok(message) => Ok((request_shown(alloc, &message)?, true)),
-                Err(Memory) => Err(Memory),
-            },
-            other => Ok((came_text(alloc, other)?, false)),
+            Came::Whole => taken_text(alloc, reader.take(alloc)),
+            other => other_text(alloc, other),
         },
-        other => Ok((came_text(alloc, other)?, false)),
+        other => other_text(alloc, other),
     }
+}
+
+/// A request as a text.
+fn taken_text(
+    alloc: Global,
+    taken: Result<RequestMessage, Memory>,
+) -> Result<(Vec<u8>, bool), Memory> {
+    let message = taken?;
+    Ok((request_shown(alloc, &message)?, true))
+}
+
+/// What is no request as a text.
+fn other_text(alloc: Global, came: Came) -> Result<(Vec<u8>, bool), Memory> {
+    Ok((came_text(alloc, came)?, false))
 }
 
 /// What came in place of a request.
