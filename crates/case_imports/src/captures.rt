@@ -6,12 +6,16 @@ use warc_reader::{CaptureReader, ImportFault, Outcome, Reason, Skipped};
 /// What each record of the file gives, in order; or where no record stands.
 pub fn captures_shown(alloc: Global, file: &[u8]) -> Result<Vec<u8>, Memory> {
     let mut out = Vec::new(alloc);
-    match CaptureReader::new(alloc, file) {
-        Ok(reader) => put_outcomes(&mut out, alloc, file, reader)?,
-        Err(ImportFault::NotARecord(at)) => put_place(&mut out, b"NotARecord ", at)?,
-        Err(ImportFault::Memory) => return Err(Memory),
-    }
+    put_captures(&mut out, alloc, file)?;
     Ok(out)
+}
+
+fn put_captures(out: &mut Vec<u8>, alloc: Global, file: &[u8]) -> Result<(), Memory> {
+    match CaptureReader::new(alloc, file) {
+        Ok(mut reader) => put_outcomes(out, alloc, file, &mut reader),
+        Err(ImportFault::NotARecord(at)) => put_place(out, b"NotARecord ", at),
+        Err(ImportFault::Memory) => Err(Memory),
+    }
 }
 
 fn put_place(out: &mut Vec<u8>, name: &[u8], at: u64) -> Result<(), Memory> {
@@ -24,21 +28,20 @@ fn put_outcomes(
     out: &mut Vec<u8>,
     alloc: Global,
     file: &[u8],
-    reader: CaptureReader,
+    reader: &mut CaptureReader,
 ) -> Result<(), Memory> {
-    let mut reader = reader;
     // No file has more records than bytes.
     for _ in file {
         match reader.next(alloc)? {
-            Some(outcome) => put_outcome(out, &outcome)?,
+            Some(outcome) => put_outcome(out, outcome)?,
             None => break,
         }
     }
     put_all(out, b"end")
 }
 
-fn put_outcome(out: &mut Vec<u8>, outcome: &Outcome) -> Result<(), Memory> {
-    match outcome {
+fn put_outcome(out: &mut Vec<u8>, outcome: Outcome) -> Result<(), Memory> {
+    match &outcome {
         Outcome::Taken(taken) => put_taken(out, taken),
         Outcome::Skipped(skipped) => put_skipped(out, skipped),
         Outcome::PassedOver => put_all(out, b"PassedOver; "),
