@@ -25,21 +25,53 @@ pub fn told<D: Disk>(
     match step.name {
         "store" => store(alloc, archive, text),
         "fill" => fill(alloc, archive, text),
-        "bring" => bring(alloc, archive, text),
+        "roll" => roll(alloc, archive, text),
+        "compare" => words::text(compared(alloc, archive, text)),
+        "settle" => words::text(settled(alloc, archive)),
+        "take-piece" => words::text(piece_taken(alloc, archive, text)),
+        _ => found(alloc, archive, step),
+    }
+}
+
+/// What a step tells that asks for captures of a url, or for all of the archive.
+fn found<D: Disk>(
+    alloc: Global,
+    archive: &mut Archive<D>,
+    step: &Deed,
+) -> Result<Option<Vec<u8>>, Memory> {
+    let text = step.text.as_slice();
+    match step.name {
         "by-date" => found_by_date(alloc, archive, text),
         "map" => mapped(alloc, archive, text),
         "starting" => starting_with(alloc, archive, text),
-        "roll" => roll(alloc, archive, text),
-        "compare" => words::text(compared(alloc, archive, text)),
         "counts" => words::text(counts_text(alloc, archive.counts())),
         "faults" => words::text(faults_text(alloc, archive.faults())),
-        "entry" => entry(alloc, archive, text),
-        "piece" => piece(alloc, archive, text),
-        "settle" => words::text(settled(alloc, archive)),
-        "take-piece" => words::text(piece_taken(alloc, archive, text)),
         "volumes" => words::bytes(volumes_text(alloc, archive)),
+        _ => match capture_in(text) {
+            Some(number) => of_capture(alloc, archive, step.name, number),
+            None => Ok(None),
+        },
+    }
+}
+
+/// What a step tells that asks for the capture with a number.
+fn of_capture<D: Disk>(
+    alloc: Global,
+    archive: &mut Archive<D>,
+    name: &str,
+    number: u32,
+) -> Result<Option<Vec<u8>>, Memory> {
+    match name {
+        "bring" => words::bytes(brought(alloc, archive, number)),
+        "piece" => words::bytes(piece_of(alloc, archive, number)),
+        "entry" => words::text(entry_text(alloc, archive.entry(number))),
         _ => Ok(None),
     }
+}
+
+/// The number of a capture.
+fn capture_in(text: &[u8]) -> Option<u32> {
+    u32::try_from(number_in(text)?).ok()
 }
 
 fn faults_text(alloc: Global, faults: u64) -> Result<String, Memory> {
@@ -67,44 +99,6 @@ fn fill<D: Disk>(
 ) -> Result<Option<Vec<u8>>, Memory> {
     match load_in(text) {
         Some(load) => filled(alloc, archive, load),
-        None => Ok(None),
-    }
-}
-
-/// The number of a capture.
-fn capture_in(text: &[u8]) -> Option<u32> {
-    u32::try_from(number_in(text)?).ok()
-}
-
-fn bring<D: Disk>(
-    alloc: Global,
-    archive: &mut Archive<D>,
-    text: &[u8],
-) -> Result<Option<Vec<u8>>, Memory> {
-    match capture_in(text) {
-        Some(number) => words::bytes(brought(alloc, archive, number)),
-        None => Ok(None),
-    }
-}
-
-fn entry<D: Disk>(
-    alloc: Global,
-    archive: &Archive<D>,
-    text: &[u8],
-) -> Result<Option<Vec<u8>>, Memory> {
-    match capture_in(text) {
-        Some(number) => words::text(entry_text(alloc, archive.entry(number))),
-        None => Ok(None),
-    }
-}
-
-fn piece<D: Disk>(
-    alloc: Global,
-    archive: &mut Archive<D>,
-    text: &[u8],
-) -> Result<Option<Vec<u8>>, Memory> {
-    match capture_in(text) {
-        Some(number) => words::bytes(piece_of(alloc, archive, number)),
         None => Ok(None),
     }
 }

@@ -1,10 +1,11 @@
 //! A step that opens an archive by both depths, and tells which of them asks for less.
 ghost use Rattle.case_archive.specs.Opening.{IsOpening};
 
-use crate::opening::{Opening, opened};
+use crate::held::Held;
+use crate::opening::{Opening, reopened};
 use archive_shelf::Depth;
 use capture::Memory;
-use case_disk::Outcome;
+use case_disk::{Outcome, after};
 use disk_model::MemoryDisk;
 use std::alloc::Global;
 
@@ -15,7 +16,7 @@ pub fn opened_by_both(
     outcome: &mut Outcome,
     disk: MemoryDisk,
     opening: &Opening,
-) -> Result<MemoryDisk, Memory>
+) -> Result<Option<Held<MemoryDisk>>, Memory>
     requires { IsOpening opening.now }
 {
     let before = disk.reads();
@@ -24,8 +25,8 @@ pub fn opened_by_both(
     let disk = behind_opening(alloc, outcome, disk, opening, Depth::Checkpoints)?;
     let whole = between.saturating_sub(before);
     let by_lines = disk.reads().saturating_sub(between);
-    outcome.put_answer(alloc, compared(by_lines, whole))?;
-    Ok(disk)
+    let done = outcome.put_answer(alloc, compared(by_lines, whole));
+    after(done, Some(Held::Disk(disk)))
 }
 
 /// The disk behind an opening of this depth, of which it is told what it tells.
@@ -38,8 +39,8 @@ fn behind_opening(
 ) -> Result<MemoryDisk, Memory>
     requires { IsOpening opening.now }
 {
-    let held = opened(alloc, outcome, disk, opening, depth)?;
-    Ok(held.closed())
+    let (held, told) = reopened(alloc, disk, opening, depth);
+    after(outcome.put_told(alloc, told), held.closed())
 }
 
 /// How the second number of reads is told beside the first.

@@ -5,7 +5,7 @@ ghost use Rattle.case_captures.specs.Preparing.{IsPrepared};
 use crate::storing::store_fault_text;
 use crate::words;
 use archive_core::Archive;
-use archive_shelf::Shelf;
+use archive_shelf::{Receipt, Shelf, StoreFault};
 use capture::Memory;
 use case_captures::{Exchanged, Prepared, prepared_of};
 use case_language::{TextWords, number_in};
@@ -82,7 +82,11 @@ fn fault_of<D: Disk>(
 ) -> Result<Option<String>, Memory>
     requires { IsPrepared prepared }
 {
-    match archive.store(alloc, &prepared.taken) {
+    fault_in(alloc, archive.store(alloc, &prepared.taken))
+}
+
+fn fault_in(alloc: Global, stored: Result<Receipt, StoreFault>) -> Result<Option<String>, Memory> {
+    match stored {
         Ok(_) => Ok(None),
         Err(fault) => Ok(Some(store_fault_text(alloc, fault)?)),
     }

@@ -11,7 +11,6 @@ use archive_core::{Archive, compared_payloads_serve_later};
 use archive_shelf::{Looked, StoreFault};
 use capture::{Digest, Memory, growth_keeps_captures};
 use case_captures::{Prepared, exchanged_in, prepared_of};
-use case_disk::Outcome;
 use case_language::{number_in, split_word};
 use digest32::payload_digest;
 use disk_model::{Disk, MemoryDisk};
@@ -40,34 +39,20 @@ pub fn timed_in(alloc: Global, text: &[u8]) -> Result<Option<Timed>, Memory>
     }
 }
 
-/// Looks for the payload, lets so many further calls of the disk pass, and stores the capture.
+/// Looks for the payload, lets so many further calls of the disk pass, and stores the capture. The archive behind that, and what is told.
 pub fn stored_after(
     alloc: Global,
-    outcome: &mut Outcome,
     mut archive: Archive<MemoryDisk>,
-    timed: Timed,
-) -> Result<Archive<MemoryDisk>, Memory>
-    requires { IsTimed timed }
+    timed: &Timed,
+) -> (Archive<MemoryDisk>, Result<String, Memory>)
+    requires { IsTimed timed.now }
 {
-    let Timed { calls, prepared } = timed;
+    let prepared = &timed.prepared;
     let digest = payload_digest(prepared.payload.as_slice());
-    match looked_for(alloc, &mut archive, &prepared, &digest) {
-        Ok(looked) => {
-            let mut archive = archive.fused(calls);
-            let told = stored_with(alloc, &mut archive, prepared, &digest, looked);
-            tell(alloc, outcome, told)?;
-            Ok(archive)
-        }
-        Err(fault) => {
-            tell(alloc, outcome, store_fault_text(alloc, fault))?;
-            Ok(archive)
-        }
+    match looked_for(alloc, &mut archive, prepared, &digest) {
+        Ok(looked) => stored_with(alloc, archive.fused(timed.calls), prepared, &digest, looked),
+        Err(fault) => (archive, store_fault_text(alloc, fault)),
     }
-}
-
-fn tell(alloc: Global, outcome: &mut Outcome, told: Result<String, Memory>) -> Result<(), Memory> {
-    let text = told?;
-    outcome.put_answer(alloc, text.as_bytes())
 }
 
 /// What is found of the capture's payload.
@@ -89,17 +74,33 @@ fn looked_for<D: Disk>(
     }
 }
 
-/// Stores the capture with what was found of its payload.
+/// Stores the capture with what was found of its payload. The archive behind that, and what is told.
 fn stored_with<D: Disk>(
     alloc: Global,
+    mut archive: Archive<D>,
+    prepared: &Prepared,
+    digest: &Digest,
+    looked: Looked,
+) -> (Archive<D>, Result<String, Memory>)
+    requires prepared { IsPrepared prepared.now }
+    requires digest { digest.now ≡ sha1 prepared.now.payload }
+    requires right { IsRightOf (contents_of archive) prepared.now.taken looked }
+{
+    let told = told_with(alloc, &mut archive, prepared, digest, looked);
+    (archive, told)
+}
+
+/// Stores the capture with what was found of its payload, and tells what that answers.
+fn told_with<D: Disk>(
+    alloc: Global,
     archive: &mut Archive<D>,
-    prepared: Prepared,
+    prepared: &Prepared,
     digest: &Digest,
     looked: Looked,
 ) -> Result<String, Memory>
-    requires prepared { IsPrepared prepared }
-    requires digest { digest.now ≡ sha1 prepared.payload }
-    requires right { IsRightOf (contents_of archive.old) prepared.taken looked }
+    requires prepared { IsPrepared prepared.now }
+    requires digest { digest.now ≡ sha1 prepared.now.payload }
+    requires right { IsRightOf (contents_of archive.old) prepared.now.taken looked }
 {
     compared_payloads_serve_later();
     match archive.store_after(alloc, &prepared.taken, digest, looked) {

@@ -8,7 +8,7 @@ use crate::held::Held;
 use archive_core::Archive;
 use archive_shelf::{Counts, Depth, ReopenFault};
 use capture::{Limits, Memory};
-use case_disk::Outcome;
+use case_disk::{Outcome, after};
 use case_language::{number_in, split_word};
 use disk_model::Disk;
 use std::alloc::Global;
@@ -118,30 +118,29 @@ pub fn opened<D: Disk + Drop>(
     disk: D,
     opening: &Opening,
     depth: Depth,
-) -> Result<Held<D>, Memory>
+) -> Result<Option<Held<D>>, Memory>
+    requires { IsOpening opening.now }
+{
+    let (held, told) = reopened(alloc, disk, opening, depth);
+    after(outcome.put_told(alloc, told), Some(held))
+}
+
+/// The archive, and what it holds; or the disk, and why it wasn't opened.
+pub fn reopened<D: Disk>(
+    alloc: Global,
+    disk: D,
+    opening: &Opening,
+    depth: Depth,
+) -> (Held<D>, Result<String, Memory>)
     requires { IsOpening opening.now }
 {
     match Archive::reopen(alloc, disk, opening.namespace, opening.limits, depth) {
         Ok(archive) => {
-            let counts = archive.counts();
-            tell_counts(alloc, outcome, counts)?;
-            Ok(Held::Archive(archive))
+            let told = counts_text(alloc, archive.counts());
+            (Held::Archive(archive), told)
         }
-        Err((fault, disk)) => {
-            tell_fault(alloc, outcome, fault)?;
-            Ok(Held::Disk(disk))
-        }
+        Err((fault, disk)) => (Held::Disk(disk), fault_text(alloc, fault)),
     }
-}
-
-fn tell_counts(alloc: Global, outcome: &mut Outcome, counts: Counts) -> Result<(), Memory> {
-    let text = counts_text(alloc, counts)?;
-    outcome.put_answer(alloc, text.as_bytes())
-}
-
-fn tell_fault(alloc: Global, outcome: &mut Outcome, fault: ReopenFault) -> Result<(), Memory> {
-    let text = fault_text(alloc, fault)?;
-    outcome.put_answer(alloc, text.as_bytes())
 }
 
 /// How many captures, revisits and volumes there are.

@@ -6,9 +6,10 @@ use crate::held::Held;
 use crate::looking::{stored_after, timed_in};
 use crate::opening::{opened, opening_in};
 use crate::settling::{checkpoint_in, put_checkpoint};
+use archive_core::Archive;
 use archive_shelf::Depth;
 use capture::Memory;
-use case_disk::{Deed, Outcome};
+use case_disk::{Deed, Outcome, Player, after, kept, outcome_of_steps};
 use case_language::number_in;
 use disk_model::{Disk, MemoryDisk};
 use std::alloc::Global;
@@ -24,18 +25,7 @@ pub fn outcome_of(
     steps: &[Deed],
     choice: u32,
 ) -> Result<Option<Outcome>, Memory> {
-    let mut outcome = Outcome::new(alloc);
-    let mut held = Held::Disk(disk);
-    for step in steps {
-        if !step.is_due(&outcome) {
-            continue;
-        }
-        held = match taken(alloc, &mut outcome, held, step, choice)? {
-            Some(held) => held,
-            None => return Ok(None),
-        };
-    }
-    Ok(Some(outcome))
+    outcome_of_steps(alloc, &mut Stopping { choice }, Held::Disk(disk), steps)
 }
 
 /// What each step tells, over a disk one byte of which reads as another.
@@ -45,65 +35,94 @@ pub fn altered_outcome_of(
     change: Change,
     steps: &[Deed],
 ) -> Result<Option<Outcome>, Memory> {
-    let mut outcome = Outcome::new(alloc);
-    let mut held = Held::Disk(AlteredDisk::new(disk, change));
-    for step in steps {
-        if !step.is_due(&outcome) {
-            continue;
-        }
-        held = match do_step(alloc, &mut outcome, held, step)? {
-            Some(held) => held,
-            None => return Ok(None),
-        };
-    }
-    Ok(Some(outcome))
+    let altered = Held::Disk(AlteredDisk::new(disk, change));
+    outcome_of_steps(alloc, &mut Altering, altered, steps)
 }
 
-/// Does a step over a disk that can be stopped. `None` where it is none.
-fn taken(
-    alloc: Global,
-    outcome: &mut Outcome,
-    held: Held<MemoryDisk>,
-    step: &Deed,
+/// Does steps over a disk that can be stopped, by this choice where a step names none.
+#[derive(Clone, Copy)]
+struct Stopping {
     choice: u32,
-) -> Result<Option<Held<MemoryDisk>>, Memory> {
-    match step.name {
-        "stop" => Ok(stopped(held, step.text.as_slice(), choice)),
-        "fuse" => Ok(fused(held, step.text.as_slice())),
-        "files" => Ok(Some(shown(alloc, outcome, held)?)),
-        "checkpoint" => Ok(checkpointed(held, step.text.as_slice())),
-        "open-both" => opened_twice(alloc, outcome, held, step.text.as_slice()),
-        "store-after" => looked_and_stored(alloc, outcome, held, step.text.as_slice()),
-        _ => do_step(alloc, outcome, held, step),
+}
+
+impl Player for Stopping {
+    type Held = Held<MemoryDisk>;
+
+    fn step(
+        &mut self,
+        alloc: Global,
+        outcome: &mut Outcome,
+        held: Held<MemoryDisk>,
+        step: &Deed,
+    ) -> Result<Option<Held<MemoryDisk>>, Memory> {
+        let text = step.text.as_slice();
+        match step.name {
+            "stop" => Ok(stopped(held, step.choice(self.choice))),
+            "fuse" => Ok(fused(held, text)),
+            "files" => shown(alloc, outcome, held),
+            "checkpoint" => Ok(checkpointed(held, text)),
+            "open-both" => opened_twice(alloc, outcome, held, text),
+            "store-after" => looked_and_stored(alloc, outcome, held, text),
+            _ => do_step(alloc, outcome, held, step),
+        }
     }
 }
 
-/// Stops the disk by the choice that the text names, or by this one where it is empty.
-fn stopped(held: Held<MemoryDisk>, text: &[u8], choice: u32) -> Option<Held<MemoryDisk>> {
-    let choice = if text.is_empty() {
-        choice
-    } else {
-        u32::try_from(number_in(text)?).ok()?
-    };
-    match held.closed().stop(choice) {
+/// Does steps over a disk one byte of which reads as another.
+#[derive(Clone, Copy)]
+struct Altering;
+
+impl Player for Altering {
+    type Held = Held<AlteredDisk>;
+
+    fn step(
+        &mut self,
+        alloc: Global,
+        outcome: &mut Outcome,
+        held: Held<AlteredDisk>,
+        step: &Deed,
+    ) -> Result<Option<Held<AlteredDisk>>, Memory> {
+        do_step(alloc, outcome, held, step)
+    }
+}
+
+/// Stops the disk by a choice, where the step names one.
+fn stopped(held: Held<MemoryDisk>, choice: Option<u32>) -> Option<Held<MemoryDisk>> {
+    match choice {
+        Some(choice) => stopped_by(held.closed(), choice),
+        None => none_of(held),
+    }
+}
+
+fn stopped_by(disk: MemoryDisk, choice: u32) -> Option<Held<MemoryDisk>> {
+    match disk.stop(choice) {
         Ok(left) => Some(Held::Disk(left)),
         Err(_) => None,
     }
 }
 
+/// None of these, which is let go.
+fn none_of<T: Drop>(_held: T) -> Option<T> {
+    None
+}
+
 /// Lets so many further calls of the disk pass, and each behind them fail.
 fn fused(held: Held<MemoryDisk>, text: &[u8]) -> Option<Held<MemoryDisk>> {
-    let calls = number_in(text)?;
-    match held {
-        Held::Disk(disk) => Some(Held::Disk(disk.fused(calls))),
-        Held::Archive(archive) => Some(Held::Archive(archive.fused(calls))),
+    match number_in(text) {
+        Some(calls) => Some(held.fused(calls)),
+        None => none_of(held),
     }
 }
 
 /// Lets a checkpoint's file hold a text.
 fn checkpointed(held: Held<MemoryDisk>, text: &[u8]) -> Option<Held<MemoryDisk>> {
-    let (file, text) = checkpoint_in(text)?;
-    let mut disk = held.closed();
+    match checkpoint_in(text) {
+        Some((file, text)) => with_checkpoint(held.closed(), file, text),
+        None => none_of(held),
+    }
+}
+
+fn with_checkpoint(mut disk: MemoryDisk, file: u32, text: &[u8]) -> Option<Held<MemoryDisk>> {
     match put_checkpoint(&mut disk, file, text) {
         Ok(()) => Some(Held::Disk(disk)),
         Err(_) => None,
@@ -118,11 +137,8 @@ fn opened_twice(
     text: &[u8],
 ) -> Result<Option<Held<MemoryDisk>>, Memory> {
     match opening_in(text) {
-        Some(opening) => {
-            let disk = opened_by_both(alloc, outcome, held.closed(), &opening)?;
-            Ok(Some(Held::Disk(disk)))
-        }
-        None => Ok(None),
+        Some(opening) => opened_by_both(alloc, outcome, held.closed(), &opening),
+        None => Ok(none_of(held)),
     }
 }
 
@@ -131,10 +147,10 @@ fn shown(
     alloc: Global,
     outcome: &mut Outcome,
     held: Held<MemoryDisk>,
-) -> Result<Held<MemoryDisk>, Memory> {
+) -> Result<Option<Held<MemoryDisk>>, Memory> {
     let mut disk = held.closed();
-    outcome.put_files(alloc, &mut disk)?;
-    Ok(Held::Disk(disk))
+    let done = outcome.put_files(alloc, &mut disk);
+    after(done, Some(Held::Disk(disk)))
 }
 
 /// Looks for a payload, and stores the capture where so many further calls of the disk pass. `None` where the text is none for that.
@@ -146,13 +162,23 @@ fn looked_and_stored(
 ) -> Result<Option<Held<MemoryDisk>>, Memory> {
     match held {
         Held::Disk(disk) => closed(alloc, outcome, disk),
-        Held::Archive(archive) => match timed_in(alloc, text)? {
-            Some(timed) => {
-                let archive = stored_after(alloc, outcome, archive, timed)?;
-                Ok(Some(Held::Archive(archive)))
-            }
-            None => Ok(None),
-        },
+        Held::Archive(archive) => stored_timed(alloc, outcome, archive, text),
+    }
+}
+
+fn stored_timed(
+    alloc: Global,
+    outcome: &mut Outcome,
+    archive: Archive<MemoryDisk>,
+    text: &[u8],
+) -> Result<Option<Held<MemoryDisk>>, Memory> {
+    match timed_in(alloc, text) {
+        Ok(Some(timed)) => {
+            let (archive, told) = stored_after(alloc, archive, &timed);
+            after(outcome.put_told(alloc, told), Some(Held::Archive(archive)))
+        }
+        Ok(None) => Ok(None),
+        Err(Memory) => Err(Memory),
     }
 }
 
@@ -178,8 +204,8 @@ fn reopened<D: Disk + Drop>(
     depth: Depth,
 ) -> Result<Option<Held<D>>, Memory> {
     match opening_in(step.text.as_slice()) {
-        Some(opening) => Ok(Some(opened(alloc, outcome, held.closed(), &opening, depth)?)),
-        None => Ok(None),
+        Some(opening) => opened(alloc, outcome, held.closed(), &opening, depth),
+        None => Ok(none_of(held)),
     }
 }
 
@@ -191,13 +217,23 @@ fn asked<D: Disk + Drop>(
 ) -> Result<Option<Held<D>>, Memory> {
     match held {
         Held::Disk(disk) => closed(alloc, outcome, disk),
-        Held::Archive(mut archive) => match told(alloc, &mut archive, step)? {
-            Some(text) => {
-                outcome.put_answer(alloc, text.as_slice())?;
-                Ok(Some(Held::Archive(archive)))
-            }
-            None => Ok(None),
-        },
+        Held::Archive(mut archive) => {
+            let done = answered(alloc, outcome, &mut archive, step);
+            kept(Held::Archive(archive), done)
+        }
+    }
+}
+
+/// Tells what is asked of an archive. Whether the step is one.
+fn answered<D: Disk>(
+    alloc: Global,
+    outcome: &mut Outcome,
+    archive: &mut Archive<D>,
+    step: &Deed,
+) -> Result<bool, Memory> {
+    match told(alloc, archive, step)? {
+        Some(text) => after(outcome.put_answer(alloc, text.as_slice()), true),
+        None => Ok(false),
     }
 }
 
@@ -207,6 +243,5 @@ fn closed<D: Disk + Drop>(
     outcome: &mut Outcome,
     disk: D,
 ) -> Result<Option<Held<D>>, Memory> {
-    outcome.put_answer(alloc, CLOSED)?;
-    Ok(Some(Held::Disk(disk)))
+    after(outcome.put_answer(alloc, CLOSED), Some(Held::Disk(disk)))
 }

@@ -4,6 +4,6 @@ use Rattle.archive_core.specs.Holdings.{Holdings, contents_of}
 use Rattle.archive_core.specs.Looking.{IsRightOf}
 use Rattle.case_archive.proofs.looking.stored_after.Goals as goal
 
-pub stored_with-told-requires-clause-right : goal.stored_with-told-requires-clause-right
-stored_with-told-requires-clause-right c =
-    subst (λ (held : Holdings _). IsRightOf (contents_of held) c.args.timed.prepared.taken c.in-Ok.looked) (sym c.fused-archive.ensures) c.in-Ok.ensures
+pub stored_with-requires-clause-right : goal.stored_with-requires-clause-right
+stored_with-requires-clause-right c =
+    subst (λ (held : Holdings _). IsRightOf (contents_of held) c.args.timed.now.prepared.taken c.in-Ok.looked) (sym c.fused.ensures) c.in-Ok.ensures
