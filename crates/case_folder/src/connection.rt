@@ -23,15 +23,25 @@ pub fn written<D: Disk>(
     text: &[u8],
 ) -> Result<Vec<u8>, Memory> {
     let site = site(alloc)?;
-    let mut client = MemoryLink::new(alloc, Vec::from_slice(alloc, text)?, Vec::new(alloc));
-    let _ended = serve(
+    served(
         alloc,
         archive,
-        &mut client,
-        &mut origins.dialer,
-        &mut origins.clock,
+        origins,
+        Vec::from_slice(alloc, text)?,
         &site,
-    );
+    )
+}
+
+fn served<D: Disk>(
+    alloc: Global,
+    archive: &mut Archive<D>,
+    origins: &mut Origins,
+    text: Vec<u8>,
+    site: &Site,
+) -> Result<Vec<u8>, Memory> {
+    let mut client = MemoryLink::new(alloc, text, Vec::new(alloc));
+    let Origins { dialer, clock } = origins;
+    let _ended = serve(alloc, archive, &mut client, dialer, clock, site);
     Ok(Vec::from_slice(alloc, client.written())?)
 }
 

@@ -6,8 +6,7 @@ use crate::quiet::Quiet;
 use crate::setting::{FolderSetting, plan_of};
 use capture::Memory;
 use case_archive::{Held, do_step};
-use case_disk::{Deed, Outcome};
-use case_language::number_in;
+use case_disk::{Deed, Outcome, Player, after, outcome_of_steps};
 use folder_disk::{FolderDisk, Unopened};
 use memory_folder::MemoryFolders;
 use std::alloc::Global;
@@ -18,10 +17,9 @@ const REFUSED: &[u8] = b"DiskFault";
 /// What is told where no archive is open.
 const CLOSED: &[u8] = b"closed";
 
-/// What was told so far, and what steps need beside the folder.
+/// Does steps over a folder. Where a step `stop` has no number, it stops by this choice.
 #[derive(Drop)]
 struct Stage {
-    outcome: Outcome,
     origins: Origins,
     choice: u32,
 }
@@ -35,46 +33,38 @@ pub fn outcome_of(
     steps: &[Deed],
     choice: u32,
 ) -> Result<Option<Outcome>, Memory> {
-    let mut folders = MemoryFolders::new(alloc, None);
-    folders.plan = plan_of(alloc, setting)?;
-    let mut found = Found::Free(Quiet { folders });
-    let mut stage = Stage {
-        outcome: Outcome::new(alloc),
-        origins,
-        choice,
-    };
-    for step in steps {
-        if !step.is_due(&stage.outcome) {
-            continue;
-        }
-        found = match taken(alloc, &mut stage, found, step)? {
-            Some(found) => found,
-            None => return Ok(None),
-        };
-    }
-    let Stage {
-        outcome,
-        origins: _,
-        choice: _,
-    } = stage;
-    Ok(Some(outcome))
+    let found = Found::Free(quiet_of(alloc, setting)?);
+    let mut stage = Stage { origins, choice };
+    outcome_of_steps(alloc, &mut stage, found, steps)
 }
 
-/// Does a step. `None` where it is none.
-fn taken(
-    alloc: Global,
-    stage: &mut Stage,
-    found: Found,
-    step: &Deed,
-) -> Result<Option<Found>, Memory> {
-    if is_of_folder(step.name) {
-        return set(alloc, stage.choice, found.freed(), step);
-    }
-    match step.name {
-        "open" => opened(alloc, stage, found, step),
-        "open-lines" => opened(alloc, stage, found, step),
-        "connection" => connected(alloc, stage, found, step.text.as_slice()),
-        _ => asked(alloc, stage, found, step),
+/// A folder whose calls go so.
+fn quiet_of(alloc: Global, setting: FolderSetting) -> Result<Quiet, Memory> {
+    let plan = plan_of(alloc, setting)?;
+    let mut folders = MemoryFolders::new(alloc, None);
+    folders.plan = plan;
+    Ok(Quiet { folders })
+}
+
+impl Player for Stage {
+    type Held = Found;
+
+    fn step(
+        &mut self,
+        alloc: Global,
+        outcome: &mut Outcome,
+        held: Found,
+        step: &Deed,
+    ) -> Result<Option<Found>, Memory> {
+        if is_of_folder(step.name) {
+            return set(alloc, self.choice, held.freed(), step);
+        }
+        match step.name {
+            "open" => opened(alloc, outcome, held, step),
+            "open-lines" => opened(alloc, outcome, held, step),
+            "connection" => connected(alloc, outcome, &mut self.origins, held, step),
+            _ => asked(alloc, outcome, held, step),
+        }
     }
 }
 
@@ -98,7 +88,7 @@ fn set(alloc: Global, choice: u32, quiet: Quiet, step: &Deed) -> Result<Option<F
 fn left_by(alloc: Global, choice: u32, quiet: Quiet, step: &Deed) -> Result<Option<Quiet>, Memory> {
     let text = step.text.as_slice();
     match step.name {
-        "stop" => Ok(stopped_by(quiet, text, choice)),
+        "stop" => Ok(stopped_by(quiet, step.choice(choice))),
         "let-go" => Ok(unchanged(quiet, text)),
         "fuse" => Ok(fused(quiet, text)),
         "in-part" => Ok(failing_in_part(quiet, text)),
@@ -111,17 +101,17 @@ fn left_by(alloc: Global, choice: u32, quiet: Quiet, step: &Deed) -> Result<Opti
 /// Opens the archive. Where no disk holds the folder it is held, counted and synced first.
 fn opened(
     alloc: Global,
-    stage: &mut Stage,
+    outcome: &mut Outcome,
     found: Found,
     step: &Deed,
 ) -> Result<Option<Found>, Memory> {
     match found {
-        Found::Held(held) => done(alloc, stage, held, step),
+        Found::Held(held) => done(alloc, outcome, held, step),
         Found::Free(quiet) => match FolderDisk::open(quiet, alloc) {
-            Ok(disk) => done(alloc, stage, Held::Disk(disk), step),
+            Ok(disk) => done(alloc, outcome, Held::Disk(disk), step),
             Err(unopened) => {
                 let Unopened { system, error: _ } = unopened;
-                told(alloc, stage, Found::Free(system), REFUSED)
+                told(alloc, outcome, Found::Free(system), REFUSED)
             }
         },
     }
@@ -130,71 +120,74 @@ fn opened(
 /// Does a step of the archive, where one is open.
 fn asked(
     alloc: Global,
-    stage: &mut Stage,
+    outcome: &mut Outcome,
     found: Found,
     step: &Deed,
 ) -> Result<Option<Found>, Memory> {
     match found {
-        Found::Held(held) => done(alloc, stage, held, step),
-        Found::Free(quiet) => told(alloc, stage, Found::Free(quiet), CLOSED),
+        Found::Held(held) => done(alloc, outcome, held, step),
+        Found::Free(quiet) => told(alloc, outcome, Found::Free(quiet), CLOSED),
     }
 }
 
 /// Does a step of the archive over the disk in the folder.
 fn done(
     alloc: Global,
-    stage: &mut Stage,
+    outcome: &mut Outcome,
     held: Held<Disk>,
     step: &Deed,
 ) -> Result<Option<Found>, Memory> {
-    match do_step(alloc, &mut stage.outcome, held, step)? {
+    match do_step(alloc, outcome, held, step)? {
         Some(held) => Ok(Some(Found::Held(held))),
         None => Ok(None),
     }
 }
 
-/// Serves a client that gives this text, where an archive is open, and tells what is written to it.
+/// Serves a client that gives the step's text, where an archive is open, and tells what is written to it.
 fn connected(
     alloc: Global,
-    stage: &mut Stage,
+    outcome: &mut Outcome,
+    origins: &mut Origins,
     found: Found,
-    text: &[u8],
+    step: &Deed,
 ) -> Result<Option<Found>, Memory> {
     match found {
         Found::Held(Held::Archive(archive)) => {
             let mut archive = archive;
-            let text = written(alloc, &mut archive, &mut stage.origins, text)?;
-            told(
-                alloc,
-                stage,
-                Found::Held(Held::Archive(archive)),
-                text.as_slice(),
-            )
+            let text = written(alloc, &mut archive, origins, step.text.as_slice());
+            let done = put_written(alloc, outcome, text);
+            after(done, Some(Found::Held(Held::Archive(archive))))
         }
         Found::Held(Held::Disk(disk)) => {
-            told(alloc, stage, Found::Held(Held::Disk(disk)), CLOSED)
+            told(alloc, outcome, Found::Held(Held::Disk(disk)), CLOSED)
         }
-        Found::Free(quiet) => told(alloc, stage, Found::Free(quiet), CLOSED),
+        Found::Free(quiet) => told(alloc, outcome, Found::Free(quiet), CLOSED),
     }
+}
+
+fn put_written(
+    alloc: Global,
+    outcome: &mut Outcome,
+    text: Result<Vec<u8>, Memory>,
+) -> Result<(), Memory> {
+    let text = text?;
+    outcome.put_answer(alloc, text.as_slice())
 }
 
 /// Tells a text.
 fn told(
     alloc: Global,
-    stage: &mut Stage,
+    outcome: &mut Outcome,
     found: Found,
     text: &[u8],
 ) -> Result<Option<Found>, Memory> {
-    stage.outcome.put_answer(alloc, text)?;
-    Ok(Some(found))
+    after(outcome.put_answer(alloc, text), Some(found))
 }
 
-/// Stops the machine by the choice that the text names, or by this one where it is empty.
-fn stopped_by(quiet: Quiet, text: &[u8], choice: u32) -> Option<Quiet> {
-    let choice = if text.is_empty() {
-        choice
-    } else {
-        u32::try_from(number_in(text)?).ok()?
-    };
-    stopped(quiet, choice)
+/// Stops the machine by a choice, where the step names one.
+fn stopped_by(quiet: Quiet, choice: Option<u32>) -> Option<Quiet> {
+    match choice {
+        Some(choice) => stopped(quiet, choice),
+        None => None,
+    }
 }
