@@ -17,17 +17,20 @@ use std::thread;
 use std::thread::Threads;
 use std::time::{Clock, Duration};
 
-const FIRST: &[u8] = b"GET http://a.test/ HTTP/1.1\r\nHost: a.test\r\nConnection: close\r\n\r\n";
+const FIRST: &[u8] = b"GET http://a.test/ HTTP/1.1\r\nHost: a.test\r\n\r\n";
 
-const SECOND: &[u8] = b"GET http://b.test/ HTTP/1.1\r\nHost: b.test\r\nConnection: close\r\n\r\n";
+const SECOND: &[u8] = b"GET http://b.test/ HTTP/1.1\r\nHost: b.test\r\n\r\n";
+
+// How many bytes of its request a client sends at once.
+const PIECE: usize = 30;
 
 const ANSWER: &[u8] = b"HTTP/1.1 200 OK\r\nContent-Length: 5\r\nConnection: close\r\n\r\nhello";
 
-// How many connections were answered, and how often that was awaited in vain.
+// How many connections were answered, and how often that was awaited in vain, or a call came out of its turn.
 #[derive(Clone, Copy)]
 struct Told<'a> {
     answered: &'a AtomicU64,
-    in_vain: &'a AtomicU64,
+    wrong: &'a AtomicU64,
 }
 
 // Waits until so many connections were answered, for ten seconds at most.
@@ -38,7 +41,7 @@ fn await_answers<R: Clock>(rt: &R, told: Told, count: u64) {
         }
         thread::sleep(rt, Duration::from_millis(1));
     }
-    told.in_vain.fetch_add(1, Ordering::SeqCst);
+    told.wrong.fetch_add(1, Ordering::SeqCst);
 }
 
 // Gives what comes next of a text, and says how much that is.
@@ -53,13 +56,45 @@ fn give(text: &[u8], at: &mut usize, into: &mut [u8]) -> usize
     count
 }
 
-// A client, who sends one request.
+// The front of a text, up to the piece that comes next.
+fn front(text: &'static [u8], at: usize) -> &'static [u8] {
+    &text[..at.saturating_add(PIECE).min(text.len())]
+}
+
+// A client, who sends one request in pieces, and nothing more. It notes where it isn't told that a request is awaited, is told so
+// inside one, or is asked for more while it waits for its answer.
 #[derive(Drop)]
 struct Client<'a> {
     request: &'static [u8],
     at: usize,
     told: Told<'a>,
+    is_awaited: bool,
     is_answered: bool,
+}
+
+impl<'a> Client<'a> {
+    // Whether its request hasn't begun, or was answered.
+    fn is_between(&self) -> bool {
+        if self.at == 0 {
+            return true;
+        }
+        self.is_answered
+    }
+
+    // Whether it may be asked for more.
+    fn may_send(&self) -> bool {
+        if self.is_between() {
+            return self.is_awaited;
+        }
+        self.at < self.request.len()
+    }
+
+    // Counts a call that comes out of its turn.
+    fn note(&self, is_right: bool) {
+        if !is_right {
+            self.told.wrong.fetch_add(1, Ordering::SeqCst);
+        }
+    }
 }
 
 impl<'a> Link for Client<'a> {
@@ -70,7 +105,9 @@ impl<'a> Link for Client<'a> {
     ghost faults = { λ _. 0 };
 
     fn read(&mut self, into: &mut [u8]) -> Result<usize, Failed> {
-        Ok(give(self.request, &mut self.at, into))
+        self.note(self.may_send());
+        self.is_awaited = false;
+        Ok(give(front(self.request, self.at), &mut self.at, into))
     }
 
     fn write(&mut self, piece: &[u8]) -> Result<usize, Failed> {
@@ -81,7 +118,10 @@ impl<'a> Link for Client<'a> {
         Ok(piece.len())
     }
 
-    fn await_request(&mut self) {}
+    fn await_request(&mut self) {
+        self.note(self.is_between());
+        self.is_awaited = true;
+    }
 }
 
 // An origin, which may answer only once another connection was answered.
@@ -178,6 +218,7 @@ impl<'a, R: Clock> Gate for Door<'a, R> {
             request,
             at: 0,
             told: self.told,
+            is_awaited: false,
             is_answered: false,
         })
     }
@@ -213,7 +254,9 @@ fn crew_of<'a, R: Clock + Abort>(
     Crew { members }
 }
 
-// The origin of the first connection answers only once the second one was answered, and the gate closes only once both were.
+// The origin of the first connection answers only once the second one was answered, and the gate closes only once both were. Each
+// client is told that a request is awaited before its own and behind the answer, and not inside one, and it isn't asked for more while it
+// waits for its answer.
 #[test]
 fn two_connections_are_served_at_once(rt: HostRuntime) -> Result<(), Fail> {
     serve_two(&rt, rt.alloc());
@@ -222,10 +265,10 @@ fn two_connections_are_served_at_once(rt: HostRuntime) -> Result<(), Fail> {
 
 fn serve_two<R: Threads + Wait + Clock + Abort + Sync>(rt: &R, alloc: Global) {
     let answered = AtomicU64::new(0);
-    let in_vain = AtomicU64::new(0);
+    let wrong = AtomicU64::new(0);
     let told = Told {
         answered: &answered,
-        in_vain: &in_vain,
+        wrong: &wrong,
     };
     let mut crew = crew_of(rt, alloc, told);
     let mut door = door_of(rt, told);
@@ -239,6 +282,6 @@ fn serve_two<R: Threads + Wait + Clock + Abort + Sync>(rt: &R, alloc: Global) {
     ];
     let ran = run(rt, alloc, &words, disk, &mut door, &mut crew, &mut out);
     assert!(rt; ran.status == Status::Done);
-    assert!(rt; in_vain.load(Ordering::SeqCst) == 0);
+    assert!(rt; wrong.load(Ordering::SeqCst) == 0);
     assert_eq!(rt; out.written(), b"captures 2\n".as_slice());
 }
