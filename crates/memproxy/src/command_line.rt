@@ -1,8 +1,8 @@
 //! The words of the command line.
 ghost use Rattle.std.specs.Prelude.{◌≡◌, IfOk, map, string_bytes};
 ghost use Rattle.memproxy.specs.Locks as spec;
-ghost use Rattle.memproxy.specs.Streams.{has_client_at_streams, prints_on_error};
-ghost use Rattle.real_outside.specs.Ends.{is_streams};
+ghost use Rattle.memproxy.specs.Streams as streams;
+ghost use Rattle.memproxy.specs.Streams.{prints_on_error};
 ghost use Rattle.real_outside.specs.Sinks.{is_error};
 
 use capture::Memory;
@@ -42,7 +42,7 @@ pub(crate) fn texts_of(alloc: Global, words: &[String]) -> Result<Vec<&str>, Mem
 
 /// Where the words have the program meet its clients and its origins.
 pub(crate) fn ends_of(alloc: Global, words: &[&str]) -> Result<Ends, Memory>
-    ensures { IfOk result (λ ends. is_streams ends ≡ has_client_at_streams (map (λ word. word.now) words.now)) }
+    ensures { IfOk result (λ ends. ends ≡ streams.ends_of (map (λ word. word.now) words.now)) }
 {
     if is_pipe(words) {
         return Ok(Ends::Streams);
@@ -50,14 +50,16 @@ pub(crate) fn ends_of(alloc: Global, words: &[&str]) -> Result<Ends, Memory>
     if is_import(words) {
         return Ok(Ends::Streams);
     }
-    if !listens(words) {
-        return Ok(Ends::Network(None));
+    if is_server(words) {
+        return Ok(Ends::Network(site_of(alloc, words)?));
     }
-    Ok(Ends::Network(site_of(alloc, words)?))
+    Ok(Ends::Network(None))
 }
 
 /// Whether clients come in over the network. The site that `follow` names is its source's.
-fn listens(words: &[&str]) -> bool {
+fn is_server(words: &[&str]) -> bool
+    ensures { result ≡ streams.is_server (map (λ word. word.now) words.now) }
+{
     match words.first() {
         Some(word) => *word == "serve",
         None => false,
