@@ -2,12 +2,14 @@
 #![tactic(auto)]
 
 mod command_line;
+mod objects;
 mod status;
 
 use command::Status;
-use command_line::{ends_of, lock_of, out_of, texts_of, words_of};
-use proxy_run::{CREW, Crew, run};
-use real_outside::{Made, hold_standard_descriptors, make};
+use command_line::{out_of, texts_of, words_of};
+use objects::objects_for;
+use proxy_run::{Crew, run};
+use real_outside::{Made, hold_standard_descriptors};
 use status::{ended, exit_code};
 use std::process::ExitCode;
 
@@ -22,11 +24,7 @@ fn main(rt: HostRuntime) -> ExitCode {
     let Ok(texts) = texts_of(rt.alloc(), words.as_slice()) else {
         return exit_code(Status::Memory);
     };
-    let Ok(ends) = ends_of(rt.alloc(), texts.as_slice()) else {
-        return exit_code(Status::Memory);
-    };
-    let lock = lock_of(texts.as_slice());
-    let Ok(made) = make(&rt, ends, lock, CREW) else {
+    let Ok(made) = objects_for(&rt, texts.as_slice()) else {
         return exit_code(Status::Memory);
     };
     let Made {
