@@ -1,5 +1,5 @@
 //! How many files of each kind a folder has.
-ghost use Rattle.std.specs.Prelude.{◌≡◌, ◌≢◌, ◌<◌, ◌≤◌, ◌^◌, ◌++◌, ◌∷◌, [], ℕ, None, List, IsTrue, IfOk, OnOk, max};
+ghost use Rattle.std.specs.Prelude.{◌≡◌, ◌≢◌, ◌<◌, ◌≤◌, ◌^◌, ◌++◌, ◌∷◌, [], ℕ, false, None, List, IsTrue, IfOk, OnOk, max};
 ghost use Rattle.folder_model.specs.Folder.{contents_of, IsUnfailed};
 ghost use Rattle.folder_disk.specs.Counting.{HasNoMore};
 ghost use Rattle.folder_disk.specs.State.{IsCounted, known_of};
@@ -190,18 +190,36 @@ pub(crate) fn check_one<F: Folder, N: FileNames>(
     ensures past { IsTrue F.tells → F.past folder.new ≡ F.past folder.old }
     ensures there { IsTrue F.tells → OnOk result (contents_of (F.past folder.new) (N.name kind file) ≢ None) }
 {
+    if is_there::<F, N>(folder, alloc, kind, file)? {
+        return Ok(());
+    }
+    Err(number_missing())
+}
+
+/// Whether a file is there.
+pub(crate) fn is_there<F: Folder, N: FileNames>(
+    folder: &mut F,
+    alloc: Global,
+    kind: Kind,
+    file: u32,
+) -> io::Result<bool>
+    ensures past { IsTrue F.tells → F.past folder.new ≡ F.past folder.old }
+    ensures there { IsTrue F.tells → IfOk result
+        (λ is. IsTrue is → contents_of (F.past folder.new) (N.name kind file) ≢ None) }
+{
     let name = N::name_of(alloc, kind, file)?;
     match folder.open(name.as_str(), Access::Read) {
-        Ok(_file) => Ok(()),
-        Err(error) => Err(missing(error)),
+        Ok(_file) => Ok(true),
+        Err(error) => absent(error),
     }
 }
 
-/// Why a file below the greatest number isn't there.
-fn missing(error: io::Error) -> io::Error {
+/// That a file isn't there, where that is why it couldn't be opened.
+fn absent(error: io::Error) -> io::Result<bool>
+    ensures { IfOk result (λ is. is ≡ false) }
+{
     if error.kind() == ErrorKind::NotFound {
-        number_missing()
-    } else {
-        error
+        return Ok(false);
     }
+    Err(error)
 }

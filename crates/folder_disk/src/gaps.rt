@@ -1,20 +1,19 @@
 //! Checkpoints that are missing below others. Each can be written anew from its volume, so the archive isn't refused for one: who
 //! writes makes an empty file in its place, which is a checkpoint that isn't finished, and who only reads takes those before it.
-ghost use Rattle.std.specs.Prelude.{◌≡◌, ◌≢◌, ◌<◌, ◌^◌, ◌+◌, false, None, IsTrue, IfOk, OnOk};
+ghost use Rattle.std.specs.Prelude.{◌≡◌, ◌≢◌, ◌<◌, ◌^◌, ◌+◌, None, IsTrue, IfOk, OnOk};
 ghost use Rattle.folder_model.specs.Calls.{MayMake};
 ghost use Rattle.folder_model.specs.Folder.{contents_of, IsUnfailed};
 ghost use Rattle.folder_disk.specs.Counting.{HasBelow, HasNoMore, HasNoMoreOf};
 ghost use Rattle.folder_disk.specs.Gaps.{OnlyFills, LeavesFilled};
 ghost use Rattle.folder_disk.specs.State.{IsCounted};
 
-use crate::counting::{Counts, check_one, check_there, listed};
+use crate::counting::{Counts, check_one, check_there, is_there, listed};
 use crate::names::FileNames;
 use crate::reasons::{number_missing, of_dangling_link};
 use disk_model::Kind;
-use folder_model::{Access, Folder};
+use folder_model::Folder;
 use std::alloc::Global;
 use std::io;
-use std::io::ErrorKind;
 
 /// The files of each kind as they were found.
 #[derive(Clone, Copy)]
@@ -87,34 +86,11 @@ fn before_gap<F: Folder, N: FileNames>(folder: &mut F, alloc: Global, count: u32
     ensures there { IsTrue F.tells → IfOk result (λ whole. HasBelow N.name (F.past folder.new) Kind.Cdxj whole) }
 {
     for file in 0..count {
-        if !is_there::<F, N>(folder, alloc, file)? {
+        if !is_there::<F, N>(folder, alloc, Kind::Cdxj, file)? {
             return Ok(file);
         }
     }
     Ok(count)
-}
-
-/// Whether a checkpoint is there.
-fn is_there<F: Folder, N: FileNames>(folder: &mut F, alloc: Global, file: u32) -> io::Result<bool>
-    ensures past { IsTrue F.tells → F.past folder.new ≡ F.past folder.old }
-    ensures there { IsTrue F.tells → IfOk result
-        (λ is. IsTrue is → contents_of (F.past folder.new) (N.name Kind.Cdxj file) ≢ None) }
-{
-    let name = N::name_of(alloc, Kind::Cdxj, file)?;
-    match folder.open(name.as_str(), Access::Read) {
-        Ok(_file) => Ok(true),
-        Err(error) => absent(error),
-    }
-}
-
-/// That a file isn't there, where that is why it couldn't be opened.
-fn absent(error: io::Error) -> io::Result<bool>
-    ensures { IfOk result (λ is. is ≡ false) }
-{
-    if error.kind() == ErrorKind::NotFound {
-        return Ok(false);
-    }
-    Err(error)
 }
 
 /// Makes the checkpoints that are missing below the last one, which is there. Fails where one would be of no volume that is there.
@@ -151,7 +127,7 @@ fn fill_one<F: Folder, N: FileNames>(folder: &mut F, alloc: Global, file: u32) -
     ensures makes { IsTrue F.tells → MayMake (N.name Kind.Cdxj file) (F.past folder.old) (F.past folder.new) }
     ensures there { IsTrue F.tells → OnOk result (contents_of (F.past folder.new) (N.name Kind.Cdxj file) ≢ None) }
 {
-    if is_there::<F, N>(folder, alloc, file)? {
+    if is_there::<F, N>(folder, alloc, Kind::Cdxj, file)? {
         return Ok(());
     }
     make::<F, N>(folder, alloc, file)

@@ -1,5 +1,5 @@
 //! The open files of a folder that is held.
-ghost use Rattle.std.specs.Prelude.{◌≡◌, ◌≢◌, IsTrue, None, IfOk, OnOk};
+ghost use Rattle.std.specs.Prelude.{◌≡◌, IsTrue, None, IfOk, OnOk};
 ghost use Rattle.folder_model.specs.Folder.{contents_of};
 ghost use Rattle.folder_disk.specs.Held.{AreHeld};
 ghost use Rattle.folder_disk.specs.OpenFiles.{AreOthers, IsOpen};
@@ -8,7 +8,8 @@ use crate::counting::listed;
 use crate::held::Held;
 use crate::names::FileNames;
 use crate::open_files::OpenOne;
-use crate::reasons::{changed, check_in_place, files_of_others, moved, unknown};
+use crate::opening::{check_at_name, open_one};
+use crate::reasons::{changed, unknown};
 use disk_model::Kind;
 use folder_model::{Access, Folder};
 use std::io;
@@ -77,42 +78,7 @@ impl<F: Folder, N: FileNames> Held<F, N> {
         if self.known(kind) <= number {
             return Err(unknown());
         }
-        let file = self.open_file(kind, number, access)?;
-        let len = self.timed.folder.len(&file)?;
-        Ok(OpenOne {
-            kind,
-            number,
-            file,
-            len,
-            for_writing: access == Access::Update,
-        })
-    }
-
-    /// Opens a file of the folder, where that is still at its path.
-    fn open_file(&mut self, kind: Kind, number: u32, access: Access) -> io::Result<F::File>
-        ensures named { IsTrue F.tells → IfOk result (λ file. F.name_of file ≡ N.name kind number) }
-        ensures there { IsTrue F.tells → OnOk result (contents_of (F.past self.new.timed.folder) (N.name kind number) ≢ None) }
-        ensures same { IsTrue F.tells → F.past self.new.timed.folder ≡ F.past self.old.timed.folder }
-        ensures rest { self.new ≡ record self.old { timed = record self.old.timed { folder = self.new.timed.folder } } }
-    {
-        check_in_place(&mut self.timed.folder)?;
-        let name = N::name_of(self.alloc, kind, number)?;
-        self.timed.folder.open(name.as_str(), access)
-    }
-
-    /// Opens a file that isn't known yet. It was made empty and nothing was written to it: one that has bytes is another
-    /// process's.
-    pub(crate) fn further_file(&mut self, kind: Kind, number: u32) -> io::Result<F::File>
-        ensures named { IsTrue F.tells → IfOk result (λ file. F.name_of file ≡ N.name kind number) }
-        ensures there { IsTrue F.tells → OnOk result (contents_of (F.past self.new.timed.folder) (N.name kind number) ≢ None) }
-        ensures same { IsTrue F.tells → F.past self.new.timed.folder ≡ F.past self.old.timed.folder }
-        ensures rest { self.new ≡ record self.old { timed = record self.old.timed { folder = self.new.timed.folder } } }
-    {
-        let file = self.open_file(kind, number, Access::Update)?;
-        if self.timed.folder.len(&file)? != 0 {
-            return Err(files_of_others());
-        }
-        Ok(file)
+        open_one::<F, N>(&mut self.timed.folder, self.alloc, kind, number, access)
     }
 
     /// Keeps a file that is still at its name.
@@ -123,12 +89,8 @@ impl<F: Folder, N: FileNames> Held<F, N> {
         ensures same { IsTrue F.tells → F.past self.new.timed.folder ≡ F.past self.old.timed.folder }
         ensures rest { self.new ≡ record self.old { timed = record self.old.timed { folder = self.new.timed.folder }; files = self.new.files } }
     {
-        if self.timed.folder.is_at_name(&one.file)? {
-            self.files.keep(one);
-            Ok(())
-        } else {
-            Err(moved())
-        }
+        let there = check_at_name(&mut self.timed.folder, &one.file);
+        self.files.keep_after(there, one)
     }
 
     /// Whether the folder surely has no file of this number.

@@ -12,13 +12,14 @@ use crate::counting::Counts;
 use crate::mending::sync_anew;
 use crate::names::FileNames;
 use crate::open_files::{OpenFiles, OpenOne};
+use crate::opening::read_open;
 use crate::reasons::{
     check_in_place, end_of, inside, is_there_already, no_further_number, stopped, unknown,
 };
 use crate::trust::Trust;
 use crate::unopened::Unheld;
 use disk_model::Kind;
-use folder_model::{Folder, MakeFault, Timed, WriteFault, make_durably, read_whole, write_whole};
+use folder_model::{Folder, MakeFault, Timed, WriteFault, make_durably, write_whole};
 use std::alloc::Global;
 use std::io;
 use std::io::ErrorKind;
@@ -249,10 +250,8 @@ impl<F: Folder, N: FileNames> Held<F, N> {
         ensures open { IsTrue F.tells → AreHeld N.name F.name_of F.past self.new }
     {
         let one = self.to_read(kind, file)?;
-        inside(at, into.len(), one.len)?;
-        read_whole(&mut self.timed.folder, &one.file, at, into)?;
-        self.files.keep(one);
-        Ok(())
+        let done = read_open(&mut self.timed.folder, &one, at, into);
+        self.files.keep_after(done, one)
     }
 
     /// Waits until a file's bytes are on the disk. A file that isn't at its name any more isn't acknowledged.

@@ -13,6 +13,7 @@ mod laws;
 mod mending;
 mod names;
 mod open_files;
+mod opening;
 mod reader;
 mod reading;
 mod reasons;

@@ -1,9 +1,10 @@
 //! The files that stay open: the one that was written last, and the one that was read last.
-ghost use Rattle.std.specs.Prelude.{◌≡◌, ◌⊎◌, Some, None, IsTrue, false, IfSome};
+ghost use Rattle.std.specs.Prelude.{◌≡◌, ◌⊎◌, Some, None, IsTrue, false, IfSome, OnOk, OnErr};
 ghost use Rattle.disk_model.specs.Image.{IsApart};
 ghost use Rattle.folder_disk.specs.OpenFiles.{IsLeftIn, kept};
 
 use disk_model::Kind;
+use std::io;
 
 /// An open file, with the length that this process left. The folder is asked for it before a write alone.
 #[derive(Drop)]
@@ -76,6 +77,21 @@ impl<T: Drop> OpenFiles<T> {
             self.written = Some(one);
         } else {
             self.read = Some(one);
+        }
+    }
+
+    /// Passes on what a call of a file answered, and keeps the file open where it was done. Else it is closed.
+    pub(crate) fn keep_after(&mut self, done: io::Result<()>, one: OpenOne<T>) -> io::Result<()>
+        ensures passed_on { result ≡ done }
+        ensures kept { OnOk done (self.new ≡ kept one self.old) }
+        ensures closed { OnErr done (self.new ≡ self.old) }
+    {
+        match done {
+            Ok(()) => {
+                self.keep(one);
+                Ok(())
+            }
+            Err(error) => Err(error),
         }
     }
 }

@@ -5,9 +5,10 @@ use crate::counting::Counts;
 use crate::gaps::count_to_read;
 use crate::names::FileNames;
 use crate::open_files::{OpenFiles, OpenOne};
-use crate::reasons::{check_in_place, inside, unknown};
+use crate::opening::{open_one, read_open};
+use crate::reasons::{check_in_place, unknown};
 use disk_model::Kind;
-use folder_model::{Access, Folder, read_whole};
+use folder_model::{Access, Folder};
 use std::alloc::Global;
 use std::io;
 use std::marker::PhantomData;
@@ -63,10 +64,8 @@ impl<F: Folder, N: FileNames> Reading<F, N> {
         into: &mut [u8],
     ) -> io::Result<()> {
         let one = self.taken(kind, file)?;
-        inside(at, into.len(), one.len)?;
-        read_whole(&mut self.folder, &one.file, at, into)?;
-        self.files.keep(one);
-        Ok(())
+        let done = read_open(&mut self.folder, &one, at, into);
+        self.files.keep_after(done, one)
     }
 
     /// Takes a file, one that is open or else opened now.
@@ -82,16 +81,6 @@ impl<F: Folder, N: FileNames> Reading<F, N> {
         if self.counts.of(kind) <= number {
             return Err(unknown());
         }
-        check_in_place(&mut self.folder)?;
-        let name = N::name_of(self.alloc, kind, number)?;
-        let file = self.folder.open(name.as_str(), Access::Read)?;
-        let len = self.folder.len(&file)?;
-        Ok(OpenOne {
-            kind,
-            number,
-            file,
-            len,
-            for_writing: false,
-        })
+        open_one::<F, N>(&mut self.folder, self.alloc, kind, number, Access::Read)
     }
 }

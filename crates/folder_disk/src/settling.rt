@@ -9,6 +9,7 @@ ghost use Rattle.folder_disk.specs.State.{IsKnown, known_of};
 
 use crate::held::Held;
 use crate::names::FileNames;
+use crate::opening::open_empty;
 use crate::reasons::{no_further_number, stopped};
 use crate::trust::Further;
 use disk_model::Kind;
@@ -48,7 +49,7 @@ impl<F: Folder, N: FileNames> Held<F, N> {
             self.trust.settled(kind);
             return Ok(());
         }
-        match self.further_file(kind, number) {
+        match open_empty::<F, N>(&mut self.timed.folder, self.alloc, kind, number) {
             Ok(file) => self.take_in(kind, number, &file),
             Err(error) => Err(error),
         }

@@ -1,6 +1,6 @@
 -- Laws of files that stay open.
 use Rattle.std.proofs.Common.{◌≡◌, ◌≢◌, ◌⊎◌, ◌<◌, ◌≤◌, ◌^◌, ◌+◌, ℕ, Bool, true, false, List, [], ◌∷◌, length, take, refl, sym, ap, ◌∙◌, subst, inl, inr, ⊎_elim, arith, length-take}
-use Rattle.std.specs.Prelude.{if◌then◌else◌, Option, Some, None, IfSome, Result, Ok, Err, IfOk, max}
+use Rattle.std.specs.Prelude.{if◌then◌else◌, Option, Some, None, IfSome, Result, Ok, Err, IfOk, OnOk, OnErr, max, ⊤}
 use Rattle.std.specs.Option.{option_map, unwrap_or}
 use Rattle.disk_model.specs.Image.{written}
 use Rattle.disk_model.specs.declared.kind.Kind.{Kind}
@@ -227,3 +227,9 @@ pub kept_after : {T : Type 0} (name : Kind → ℕ → List ℕ) (name_of : T �
     → new ≡ kept one files → AreOpen name name_of past files → IsOpen name name_of past one → AreOpen name name_of past new
 kept_after {T} name name_of past files new one whole are is =
     subst (λ (fs : OpenFiles T). AreOpen name name_of past fs) (sym whole) (kept_open name name_of past files one are is)
+
+-- a file is kept behind a call that was done, and else closed
+pub kept_behind : {T E : Type 0} (name : Kind → ℕ → List ℕ) (name_of : T → List ℕ) (past : FolderPast) (files new : OpenFiles T) (one : OpenOne T) (done : Result ⊤ E)
+    → OnOk done (new ≡ kept one files) → OnErr done (new ≡ files) → AreOpen name name_of past files → IsOpen name name_of past one → AreOpen name name_of past new
+kept_behind name name_of past files new one (Ok x) whole closed are is = kept_after name name_of past files new one whole are is
+kept_behind {T} name name_of past files new one (Err e) whole closed are is = subst (λ (fs : OpenFiles T). AreOpen name name_of past fs) (sym closed) are

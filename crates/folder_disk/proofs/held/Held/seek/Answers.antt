@@ -44,30 +44,28 @@ take_in-requires-clause-known g c = λ told.
     let name = g.N.FileNames.name in
     let past_of = g.F.Folder.past in
     let old : State = state_of past_of c.args.self.now in
-    let last : FolderPast = past_of c.further_file.new.self.timed.folder in
-    let went : state_of past_of c.further_file.new.self ≡ record old { past = last } =
-    (λ i. record (state_of past_of (c.further_file.ensures.rest i)) { past = last }) ∙ (λ i. record (state_of past_of (c.lacks.ensures.rest i)) { past = last }) in
+    let last : FolderPast = past_of c.open_empty.new.folder in
+    let went : record (state_of past_of c.lacks.new.self) { past = last } ≡ record old { past = last } = λ i. record (state_of past_of (c.lacks.ensures.rest i)) { past = last } in
     subst (IsKnown name) (sym went)
-    (subst (λ (p : FolderPast). IsKnown name (record old { past = p })) (sym (c.further_file.ensures.same told ∙ c.lacks.ensures.same told)) (c.requires.known told))
+    (subst (λ (p : FolderPast). IsKnown name (record old { past = p })) (sym (c.open_empty.ensures.same told ∙ c.lacks.ensures.same told)) (c.requires.known told))
 
 pub take_in-requires-clause-going : goal.take_in-requires-clause-going
-take_in-requires-clause-going g c = (λ i. (c.further_file.ensures.rest i).trust.gave_up) ∙ (λ i. (c.lacks.ensures.rest i).trust.gave_up) ∙ c.requires.going
+take_in-requires-clause-going g c = (λ i. (c.lacks.ensures.rest i).trust.gave_up) ∙ c.requires.going
 
 pub take_in-requires-clause-unsettled : goal.take_in-requires-clause-unsettled
 take_in-requires-clause-unsettled g c =
-    (λ i. further_of (c.further_file.ensures.rest i).trust c.args.kind) ∙ (λ i. further_of (c.lacks.ensures.rest i).trust c.args.kind) ∙ c.requires.unsettled
+    (λ i. further_of (c.lacks.ensures.rest i).trust c.args.kind) ∙ c.requires.unsettled
 
 pub take_in-requires-clause-number : goal.take_in-requires-clause-number
 take_in-requires-clause-number g c =
     c.known-number.ensures
-    ∙ sym ((λ i. known_of (c.further_file.ensures.rest i).warc (c.further_file.ensures.rest i).cdxj c.args.kind)
-    ∙ (λ i. known_of (c.lacks.ensures.rest i).warc (c.lacks.ensures.rest i).cdxj c.args.kind))
+    ∙ (λ i. known_of (sym c.lacks.ensures.rest i).warc (sym c.lacks.ensures.rest i).cdxj c.args.kind)
 
 pub take_in-requires-clause-written : goal.take_in-requires-clause-written
-take_in-requires-clause-written g c = (λ i. (c.further_file.ensures.rest i).files.written) ∙ (λ i. (c.lacks.ensures.rest i).files.written) ∙ c.close.ensures.written
+take_in-requires-clause-written g c = (λ i. (c.lacks.ensures.rest i).files.written) ∙ c.close.ensures.written
 
 pub take_in-requires-clause-read : goal.take_in-requires-clause-read
-take_in-requires-clause-read g c = (λ i. (c.further_file.ensures.rest i).files.read) ∙ (λ i. (c.lacks.ensures.rest i).files.read) ∙ c.close.ensures.read
+take_in-requires-clause-read g c = (λ i. (c.lacks.ensures.rest i).files.read) ∙ c.close.ensures.read
 
 pub returns-in-Ok-clause-looks : goal.returns-in-Ok-clause-looks
 returns-in-Ok-clause-looks g c =
@@ -75,10 +73,9 @@ returns-in-Ok-clause-looks g c =
     let name = g.N.FileNames.name in
     let past_of = g.F.Folder.past in
     let old : State = state_of past_of c.args.self.now in
-    let last : FolderPast = past_of c.further_file.new.self.timed.folder in
-    let went : state_of past_of c.further_file.new.self ≡ record old { past = last } =
-    (λ i. record (state_of past_of (c.further_file.ensures.rest i)) { past = last }) ∙ (λ i. record (state_of past_of (c.lacks.ensures.rest i)) { past = last }) in
-    looks_before tells name old (state_of past_of c.take_in.new.self) last (λ told. c.further_file.ensures.same told ∙ c.lacks.ensures.same told)
+    let last : FolderPast = past_of c.open_empty.new.folder in
+    let went : record (state_of past_of c.lacks.new.self) { past = last } ≡ record old { past = last } = λ i. record (state_of past_of (c.lacks.ensures.rest i)) { past = last } in
+    looks_before tells name old (state_of past_of c.take_in.new.self) last (λ told. c.open_empty.ensures.same told ∙ c.lacks.ensures.same told)
     (subst (λ (s : State). Looks tells name s (state_of past_of c.take_in.new.self)) went c.take_in.ensures.looks)
 
 pub returns-in-Err-clause-looks : goal.returns-in-Err-clause-looks
@@ -87,14 +84,13 @@ returns-in-Err-clause-looks g c =
     let name = g.N.FileNames.name in
     let past_of = g.F.Folder.past in
     let old : State = state_of past_of c.args.self.now in
-    let last : FolderPast = past_of c.further_file.new.self.timed.folder in
-    let went : state_of past_of c.further_file.new.self ≡ record old { past = last } =
-    (λ i. record (state_of past_of (c.further_file.ensures.rest i)) { past = last }) ∙ (λ i. record (state_of past_of (c.lacks.ensures.rest i)) { past = last }) in
+    let last : FolderPast = past_of c.open_empty.new.folder in
+    let went : record (state_of past_of c.lacks.new.self) { past = last } ≡ record old { past = last } = λ i. record (state_of past_of (c.lacks.ensures.rest i)) { past = last } in
     subst (λ (s : State). Looks tells name old s) (sym went)
-    (looked tells name old last (λ told. c.further_file.ensures.same told ∙ c.lacks.ensures.same told) c.requires.known)
+    (looked tells name old last (λ told. c.open_empty.ensures.same told ∙ c.lacks.ensures.same told) c.requires.known)
 
 pub returns-in-Err-clause-open : goal.returns-in-Err-clause-open
 returns-in-Err-clause-open g c = λ told.
-    none_open g.N.FileNames.name g.F.Folder.name_of (g.F.Folder.past c.further_file.new.self.timed.folder) c.further_file.new.self.files
-    ((λ i. (c.further_file.ensures.rest i).files.written) ∙ (λ i. (c.lacks.ensures.rest i).files.written) ∙ c.close.ensures.written)
-    ((λ i. (c.further_file.ensures.rest i).files.read) ∙ (λ i. (c.lacks.ensures.rest i).files.read) ∙ c.close.ensures.read)
+    none_open g.N.FileNames.name g.F.Folder.name_of (g.F.Folder.past c.open_empty.new.folder) c.lacks.new.self.files
+    ((λ i. (c.lacks.ensures.rest i).files.written) ∙ c.close.ensures.written)
+    ((λ i. (c.lacks.ensures.rest i).files.read) ∙ c.close.ensures.read)

@@ -1,12 +1,12 @@
 -- The file is called so, and its length is asked for.
 use Rattle.std.proofs.Common.{◌∙◌, List, ℕ, length, ap, sym}
 use Rattle.folder_model.specs.Folder.{FolderPast, bytes_of}
-use Rattle.folder_disk.proofs.held.Held.opened.Goals as goal
+use Rattle.folder_disk.proofs.opening.open_one.Goals as goal
 
 pub returns-clause-open : goal.returns-clause-open
 returns-clause-open g c = λ told.
     let named = c.in_ok-file.ensures.named told in
-    let before : FolderPast = g.F.Folder.past c.open_file.new.self.timed.folder in
+    let before : FolderPast = g.F.Folder.past c.open_file.new.folder in
     record {
       fits = c.ranges.number.fits;
       named = named;
