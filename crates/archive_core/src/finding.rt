@@ -1,7 +1,7 @@
 //! Captures by date.
 ghost use Rattle.std.specs.Prelude.{◌≡◌, ◌<◌, ◌++◌, ◌∷◌, [], bytes_eq, nat_eq, IfOk, OnOk};
 ghost use Rattle.std.specs.List.{starts_with};
-ghost use Rattle.cdxj_index.specs.Queries.{IsIndex, of_key, starting_with};
+ghost use Rattle.cdxj_index.specs.Queries.{IsIndex};
 ghost use Rattle.archive_shelf.specs.Queries.{ArePicked, IsFound};
 ghost use Rattle.archive_core.specs.Shown.{numbered};
 
@@ -43,14 +43,6 @@ pub(crate) fn with_key(alloc: Global, index: &Index, key: &Key) -> Result<Vec<En
     requires { IsIndex index.now }
     ensures { IfOk result (λ entries. ArePicked (λ e. bytes_eq key.now e.key) (numbered index.now) entries.items) }
 {
-    let entries = copies_with_key(alloc, index, key)?;
-    Ok(entries)
-}
-
-/// Copies of the entries of a key, as the index has them.
-fn copies_with_key(alloc: Global, index: &Index, key: &Key) -> Result<Vec<Entry>, Memory>
-    ensures { IfOk result (λ entries. entries.items ≡ of_key key.now index.now) }
-{
     let mut entries = Vec::new(alloc);
     for entry in index.range(key) {
         push_copy(&mut entries, entry)?;
@@ -62,14 +54,6 @@ fn copies_with_key(alloc: Global, index: &Index, key: &Key) -> Result<Vec<Entry>
 pub(crate) fn starting(alloc: Global, index: &Index, start: &Key) -> Result<Vec<Entry>, Memory>
     requires { IsIndex index.now }
     ensures { IfOk result (λ entries. ArePicked (λ e. starts_with nat_eq e.key start.now) (numbered index.now) entries.items) }
-{
-    let entries = copies_starting(alloc, index, start)?;
-    Ok(entries)
-}
-
-/// Copies of the entries whose key begins so, as the index has them.
-fn copies_starting(alloc: Global, index: &Index, start: &Key) -> Result<Vec<Entry>, Memory>
-    ensures { IfOk result (λ entries. entries.items ≡ starting_with start.now index.now) }
 {
     let mut entries = Vec::new(alloc);
     for entry in index.starting(start) {
