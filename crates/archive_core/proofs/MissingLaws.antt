@@ -1,7 +1,7 @@
 -- Whether the checkpoint of a volume is missing.
 use Rattle.std.proofs.Common.{◌≡◌, ◌≤◌, ◌<◌, ◌⊎◌, ◌↔◌, ℕ, Bool, true, false, not, IsTrue, List, length, refl, sym, ap, subst, inl, inr, arith}
 use Rattle.std.specs.Bool.{Decides}
-use Rattle.std.specs.Prelude.{IsErrAnd, Result, Ok, Err}
+use Rattle.std.specs.Prelude.{IfOk, IsErrAnd, Result, Ok, Err}
 use Rattle.std.proofs.lemmas.Bool.{cases_order, false≢true}
 use Rattle.std.proofs.lemmas.Bool.Decides.{Decides-and, Decides-eqb, Decides-like}
 use Rattle.std.proofs.lemmas.Slice.Eq.{bytes_eq-Decides}
@@ -17,7 +17,7 @@ use Rattle.checkpoint.specs.Checkpoints.{IsCheckpoint, checkpoint_of}
 use Rattle.checkpoint.specs.Putting.{HasPut, HoldsCheckpoint, IsBeside, Puts}
 use Rattle.checkpoint.specs.declared.fault.CheckpointFault.{CheckpointFault}
 use Rattle.checkpoint.specs.declared.fault.CheckpointFault.TheVariants as checkpoints
-use Rattle.checkpoint.specs.Reading.{HasCheckpointOf}
+use Rattle.checkpoint.specs.Reading.{HasCheckpointOf, IsNoCheckpoint}
 use Rattle.checkpoint.proofs.Missing.{missing_file}
 use Rattle.checkpoint.proofs.ReadingLaws.{one_list}
 use Rattle.checkpoint.proofs.WritingLaws.{is_committed}
@@ -96,6 +96,16 @@ due_by_found d volume lines found old new false is left tells = (
   omega (arith, is_there volume found (d.reading old) is),
   λ other. absurd (false≢true (tells.1 (one_list volume volume found lines (checkpoint_of (d.reading old) volume) is other).1)),
 )
+
+-- where none was found, it has to be written where there is a place for it
+pub due_by_place : {D : Type 0} (d : Ghosts D) (volume : ℕ) (lines : List Line) (old mid new : D) (result : Result Bool CheckpointFault)
+    → d.reading mid ≡ d.reading old → IsNoCheckpoint volume (checkpoint_of (d.reading old) volume)
+    → IfOk result (λ is. IsTrue is ↔ volume ≤ file_count (d.reading mid) Cdxj) → IfOk result (IsDue d volume lines old new)
+due_by_place d volume lines old mid new (Ok true) same none place =
+    (subst (λ (image : Image). volume ≤ file_count image Cdxj) same (place.0 refl), none lines)
+due_by_place d volume lines old mid new (Ok false) same none place =
+    λ le. absurd (false≢true (place.1 (subst (λ (image : Image). volume ≤ file_count image Cdxj) (sym same) le)))
+due_by_place d volume lines old mid new (Err fault) same none place = tt
 
 -- ---- what is written after it was looked for
 

@@ -1,13 +1,11 @@
 //! The checkpoint of a volume that is to have these lines: it is written where it isn't there.
 ghost use Rattle.std.specs.Prelude.{◌≡◌, ◌↔◌, ◌≤◌, IfOk, IsTrue};
-ghost use Rattle.capture.specs.Faults.{CountsFaults};
 ghost use Rattle.disk_model.specs.Image.{file_count};
 ghost use Rattle.warc_journal.specs.Journals.{Rests, disk_of, extent_of};
 ghost use Rattle.checkpoint.specs.Checkpoints.{AreLinesFor};
 ghost use Rattle.checkpoint.specs.Faults.{CountsDisk};
 ghost use Rattle.archive_core.specs.Settling.{IsDue, Supplies};
 
-use capture::Failed;
 use cdxj_line::Line;
 use checkpoint::{CheckpointFault, read_for, write_for};
 use disk_model::{Disk, Kind};
@@ -62,24 +60,24 @@ fn is_due<D: Disk>(
     ensures faults { CountsDisk (D.faults disk.old) (D.faults disk.new) result }
 {
     match read_for(alloc, disk, volume)? {
-        Some(found) => Ok(!are_same(found.as_slice(), lines)),
-        None => Ok(has_place(disk, volume)?),
+        Some(found) => Ok(!are_same(found, lines)),
+        None => has_place(disk, volume),
     }
 }
 
 /// Whether the files of the checkpoints before a volume's are there.
-fn has_place<D: Disk>(disk: &mut D, volume: u32) -> Result<bool, Failed>
+fn has_place<D: Disk>(disk: &mut D, volume: u32) -> Result<bool, CheckpointFault>
     ensures place { IsTrue D.tells → IfOk result (λ is. IsTrue is ↔ volume ≤ file_count (D.reading disk.old) Kind.Cdxj) }
     ensures rests { IsTrue D.tells → Rests D.Disk disk.old disk.new }
-    ensures faults { CountsFaults (D.faults disk.old) (D.faults disk.new) result }
+    ensures faults { CountsDisk (D.faults disk.old) (D.faults disk.new) result }
 {
     let count = disk.files(Kind::Cdxj)?;
     Ok(volume <= count)
 }
 
-/// Whether two lists of lines are the same.
-fn are_same(found: &[Line], lines: &[Line]) -> bool
-    ensures { IsTrue result ↔ found.now ≡ lines.now }
+/// Whether the lines that were found are these.
+fn are_same(found: Vec<Line>, lines: &[Line]) -> bool
+    ensures { IsTrue result ↔ found.items ≡ lines.now }
 {
-    found == lines
+    found.as_slice() == lines
 }
