@@ -1,9 +1,10 @@
 -- What was read of a piece can be written and kept.
-use Rattle.std.proofs.Common.{◌≡◌, ℕ, ◌+◌, ◌-◌, ◌<◌, ◌≤◌, ◌^◌, Bool, IsTrue, List, [], ◌∷◌, ◌++◌, length, Option, Some, None, refl, sym, ap, subst, ◌∙◌, arith, length-append}
-use Rattle.std.specs.Prelude.{slice_get}
+use Rattle.std.proofs.Common.{◌≡◌, ℕ, ◌+◌, ◌-◌, ◌<◌, ◌≤◌, ◌^◌, Bool, IsTrue, List, [], ◌∷◌, ◌++◌, length, Option, Some, None, refl, sym, ap, subst, ◌∙◌, arith, append_assoc, length-append}
+use Rattle.std.specs.Prelude.{drop, slice_get, take}
+use Rattle.std.proofs.Math.Seq.{drop-append_seam, take-append_seam}
 use Rattle.std.proofs.lemmas.Bool.{false≢true}
 use Rattle.std.proofs.lemmas.Grind.{get_or-set_at}
-use Rattle.std.proofs.lemmas.List.{length-set}
+use Rattle.std.proofs.lemmas.List.{append-nil, length-set}
 use Rattle.std.proofs.lemmas.Option.{slice_get_within}
 use Rattle.capture.specs.Captures.{captures, kept_wire, taken_back}
 use Rattle.capture.specs.Tails.{IsCommitted}
@@ -23,6 +24,7 @@ use Rattle.warc_text.proofs.BookLaws.{get_behind}
 use Rattle.warc_text.proofs.LengthLaws.{response_group_length, revisit_group_length}
 use Rattle.warc_text.specs.Books.{AreVolumeTexts, IsGroupText, same_of}
 use Rattle.warc_text.specs.Groups.{answer_block}
+use Rattle.warc_text.specs.Lengths.{request_length}
 use Rattle.warc_text.specs.Records.{group_text}
 use Rattle.warc_text.specs.References.{Reference, reference_to}
 use Rattle.warc_text.specs.Sound.{IsSound}
@@ -44,6 +46,7 @@ use Rattle.archive_opening.specs.Noting.{IsGroupAt, IsWithin, referring}
 use Rattle.archive_opening.specs.Reading.{Laws}
 use Rattle.archive_opening.specs.Revisits.{IsCaptureOf, IsOriginalOf, RefersRight}
 use Rattle.archive_volumes.proofs.GroupPlaces.{in_last_volume}
+use Rattle.archive_volumes.proofs.Places.{block_in_group, stands_long}
 use Rattle.archive_volumes.proofs.RoomLaws.{texts_count}
 use Rattle.archive_volumes.proofs.SpotLaws.{form_read}
 use Rattle.archive_volumes.proofs.WayLaws.{room_captures, room_gains, room_namespace}
@@ -75,6 +78,46 @@ has_digest : (method head digest : List ℕ) (same : Option Reference) (kept : K
 has_digest method head digest same (Wire wire) is = subst (λ (d : List ℕ). IsDigest d) (sym is.1.digest_is) (is_digest is.1.payload)
 has_digest method head digest same (Same number) is = is.1.digest_is
 has_digest method head digest same (Cut wire) is = subst (λ (d : List ℕ). IsDigest d) (sym is.1.digest_is) (is_digest is.1.payload)
+
+-- its head stands in it
+abbrev behind_head : Taken → Option Reference → List ℕ
+behind_head taken None = taken.wire
+behind_head taken (Some reference) = []
+
+block_begins : (taken : Taken) (same : Option Reference) → answer_block taken same ≡ taken.head ++ behind_head taken same
+block_begins taken None = refl
+block_begins taken (Some reference) = sym (append-nil taken.head)
+
+front_by : (head_at block first asked all front : ℕ) → head_at + block + 4 ≡ first → all ≡ first + asked → all ≡ front + block + (4 + asked) → head_at ≡ front
+front_by head_at block first asked all front places whole stands = omega (arith, places, whole, stands)
+
+pub record StandsAtHead (text : List ℕ) (group : Group) : Type 0 where
+  pub front : List ℕ
+  pub rest : List ℕ
+  pub composed : text ≡ front ++ (group.stored.head ++ rest)
+  pub at : group.head_at ≡ length front
+
+pub head_stands : (namespace : List ℕ) (number : ℕ) (text : List ℕ) (group : Group) → IsGroup namespace number text group → StandsAtHead text group
+head_stands namespace number text group is =
+    let taken : Taken = taken_back group.stored in
+    let same : Option Reference = reference_in group.same in
+    let stands = block_in_group namespace number taken group.digest same in
+    let long = stands_long (group_text namespace number taken group.digest same) (answer_block taken same) (4 + request_length taken) stands in
+    record {
+      front = stands.front;
+      rest = behind_head taken same ++ stands.rest;
+      composed = is.composed ∙ stands.composed ∙ ap (λ (b : List ℕ). stands.front ++ (b ++ stands.rest)) (block_begins taken same)
+          ∙ ap (λ (l : List ℕ). stands.front ++ l) (append_assoc taken.head (behind_head taken same) stands.rest);
+      at = front_by group.head_at _ _ _ _ (length stands.front) is.places.head (answer_and_request namespace number taken group.digest same) long;
+    }
+
+-- what stands from there on
+pub from_head : (text : List ℕ) (group : Group) (stands : StandsAtHead text group) → drop group.head_at text ≡ group.stored.head ++ stands.rest
+from_head text group stands = (λ i. drop (stands.at i) (stands.composed i)) ∙ drop-append_seam stands.front (group.stored.head ++ stands.rest)
+
+pub head_there : (text : List ℕ) (group : Group) → StandsAtHead text group → take (length group.stored.head) (drop group.head_at text) ≡ group.stored.head
+head_there text group stands =
+    ap (λ (l : List ℕ). take (length group.stored.head) l) (from_head text group stands) ∙ take-append_seam group.stored.head stands.rest
 
 -- it has the target twice
 target_twice : (namespace : List ℕ) (number : ℕ) (taken : Taken) (digest : List ℕ) (same : Option Reference) → IsDigest digest

@@ -25,9 +25,9 @@ use Rattle.archive_shelf.specs.declared.fault.StoreFault.{StoreFault}
 use Rattle.archive_shelf.specs.declared.fault.StoreFault.TheVariants as stores
 use Rattle.archive_volumes.proofs.ChangeLaws.{DiskLaws, laws_muted}
 use Rattle.archive_volumes.proofs.RoomLaws.{last_long, texts_count}
-use Rattle.archive_volumes.proofs.StoreLaws.{opens_earlier, quiet_itself}
+use Rattle.archive_volumes.proofs.StoreLaws.{opens_earlier}
 use Rattle.archive_volumes.proofs.VolumeLaws.{texts_rest}
-use Rattle.archive_volumes.proofs.WrittenLaws.{rests_itself, texts_since}
+use Rattle.archive_volumes.proofs.WrittenLaws.{texts_since}
 use Rattle.archive_volumes.specs.Volumes.{crash_of, muted}
 use Rattle.archive_volumes.specs.Writing.{Writes, books_as}
 use Rattle.archive_volumes.specs.Written.{WritesTexts, texts_as}
@@ -43,7 +43,8 @@ use Rattle.archive_core.specs.Stores.{Admits}
 use Rattle.archive_core.specs.TakingPieces.{HasPut, IsUnput, IsUntouched, PieceLeaves, Puts, TakesPiece}
 use Rattle.archive_core.specs.Texts.{texts_room}
 use Rattle.archive_core.specs.Told.{told_of, told_on}
-use Rattle.archive_core.specs.steps.Taking.{disk_failed, parts_as, took, Remains}
+use Rattle.archive_core.specs.steps.Taking.{FindsWithin, disk_failed, parts_as, took, Remains}
+use Rattle.archive_core.proofs.ReadLaws.{looks_itself}
 use Rattle.archive_pieces.specs.declared.fault.PieceFault.{PieceFault}
 use Rattle.archive_pieces.specs.declared.fault.PieceFault.TheVariants as pieces
 use Rattle.archive_pieces.proofs.NextParts.{no_piece}
@@ -51,19 +52,6 @@ use Rattle.archive_pieces.proofs.PieceTakingLaws.{lost_is_none, may_hold, past_i
 
 abbrev failed : PieceFault → Result ℕ PieceFault
 failed fault = Err fault
-
--- ---- nothing was asked of the disk
-
-pub looks_itself : {D : Type 0} (d : Ghosts D) → DiskLaws d → (was : Holdings D) → OnlyLooks d was was
-looks_itself d laws was = record {
-  others = refl;
-  extent = refl;
-  bytes = λ tells. rests_itself d (disk_of was.journal);
-  unwritten = record {
-    reading = λ alone told. refl;
-    crash = quiet_itself (muted was.told d) (laws_muted d was.told laws) (disk_of was.journal);
-  };
-}
 
 -- the last volume ends where it ended
 ends_by : {D : Type 0} (d : Ghosts D) (was mid : Holdings D) → OnlyLooks d was mid → last_len mid.journal ≡ last_len was.journal
@@ -73,13 +61,12 @@ pub remains_by : {D : Type 0} (d : Ghosts D) (was mid : Holdings D) → OnlyLook
 remains_by {D} d was mid looks =
     (ap (λ (h : Holdings D). contents_of h) looks.others, ends_by d was mid looks, looks.bytes, looks.unwritten)
 
-pub none_taken : {D : Type 0} (d : Ghosts D) → DiskLaws d → (was : Holdings D) (bytes : List ℕ) → length (captures was.book) < was.limits.captures
-    → (IsTrue was.told → IsNoPiece was.book bytes) → TakesPiece d was was bytes (failed pieces.NotAPiece)
-none_taken d laws was bytes not_full none = record { leaves = (not_full, looks_itself d laws was, none); faults = refl }
-
 pub no_parts : {D : Type 0} (d : Ghosts D) → DiskLaws d → (was : Holdings D) (bytes : List ℕ) → length (captures was.book) < was.limits.captures
     → (IsTrue was.told → HasNoParts was.book bytes) → TakesPiece d was was bytes (failed pieces.NotAPiece)
-no_parts d laws was bytes not_full none = none_taken d laws was bytes not_full (λ told. no_piece was.book bytes (none told))
+no_parts d laws was bytes not_full none = record {
+  leaves = (not_full, looks_itself d laws was, (λ told. no_piece was.book bytes (none told)));
+  faults = refl;
+}
 
 -- what a `?` hands out is want of memory
 pub memory_exit : {D : Type 0} (d : Ghosts D) → DiskLaws d → (was : Holdings D) (bytes : List ℕ) (result : Result ℕ PieceFault)
@@ -89,12 +76,17 @@ memory_exit d laws was bytes (Err other) fault =
     subst (λ (f : PieceFault). TakesPiece d was was bytes (failed f)) (sym fault)
     (record { leaves = remains_by d was was (looks_itself d laws was); faults = refl })
 
--- it passes a bound
-pub past_exit : {D : Type 0} (d : Ghosts D) → DiskLaws d → StoringBasis → (was : Holdings D) → IsArchive d was → (bytes : List ℕ) (begins : Option ℕ) (at : ℕ)
-    (group : Group) → IsReadAs was.book bytes begins at group → length (captures was.book) < was.limits.captures
-    → IsPastBounds group (end_by begins at (last_len was.journal)) → TakesPiece d was was bytes (failed pieces.NotAPiece)
-past_exit {D} d laws basis was is bytes begins at group read not_full past =
-    none_taken d laws was bytes not_full (λ told.
+-- where no bound is passed, what is answered is what was found
+pub finds_within : (told : Bool) (book : Book) (group : Group) (end : ℕ) → IsWithinBounds group end → (result : Result (Option ℕ) PieceFault)
+    → FindsOriginal told book group result → FindsWithin told book group end result
+finds_within told book group end within (Ok first) finds = (within, finds)
+finds_within told book group end within (Err fault) finds = inr finds
+
+-- what passes a bound is no piece
+past_none : {D : Type 0} (d : Ghosts D) → StoringBasis → (was : Holdings D) → IsArchive d was → (bytes : List ℕ) (begins : Option ℕ) (at : ℕ)
+    (group : Group) → IsReadAs was.book bytes begins at group → IsPastBounds group (end_by begins at (last_len was.journal)) → IsTrue was.told
+    → IsNoPiece was.book bytes
+past_none {D} d basis was is bytes begins at group read past told =
     let step : IsInStep d was.journal = is.holds.in_step (is.holds.tells told) in
     let may : MayHold was.book begins = may_hold was.book read.front begins read.is_front in
     past_is_none was.book (is.holds.sound told).namespace_is bytes begins at group read basis.volumes basis.groups (texts d was.journal)
@@ -103,7 +95,7 @@ past_exit {D} d laws basis was is bytes begins at group read not_full past =
     let some : 0 < length was.book.volumes = subst (λ (b : Option ℕ). MayHold was.book b) none may in
     ap (λ (n : ℕ). length (get_or (texts d was.journal) (n - 1) [])) (texts_count d was.journal step)
     ∙ last_long d was.journal step (omega (arith, some, is.measured.count)))
-    past)
+    past
 
 -- ---- a call that writes behind one that looks
 
@@ -246,15 +238,24 @@ module _ {D : Type 0} (d : Ghosts D) (was mid : Holdings D) (looks : OnlyLooks d
     fault_of (pieces.Damaged number kept found) = refl
     fault_of pieces.Memory = refl
 
-    pub fault_exit : (IsTrue was.told → IsSound was.book) → (fault : PieceFault) (answer : Result ℕ PieceFault) → IsErrAnd answer (λ other. other ≡ fault)
-        → FindsOriginal mid.told mid.book group (Err fault)
+    pub fault_exit : StoringBasis → IsArchive d was → (fault : PieceFault) (answer : Result ℕ PieceFault) → IsErrAnd answer (λ other. other ≡ fault)
+        → FindsWithin mid.told mid.book group (end_by begins at (last_len was.journal)) (Err fault)
         → CountsIf (is_take_fault {T = Option ℕ} (Err fault)) (d.faults (disk_of was.journal)) (d.faults (disk_of mid.journal))
         → TakesPiece d was mid bytes answer
-    fault_exit sound fault (Ok number) is finds counts = absurd is
-    fault_exit sound fault (Err other) is finds counts =
+    fault_exit basis archive fault (Ok number) is finds counts = absurd is
+    fault_exit basis archive fault (Err other) is finds counts =
+        let counted : CountsIf (is_take_fault (failed fault)) (d.faults (disk_of was.journal)) (d.faults (disk_of mid.journal))
+        = subst (λ (b : Bool). CountsIf b (d.faults (disk_of was.journal)) (d.faults (disk_of mid.journal))) (fault_of fault) counts in
         subst (λ (f : PieceFault). TakesPiece d was mid bytes (failed f)) (sym is)
-        (met sound fault finds
-        (subst (λ (b : Bool). CountsIf b (d.faults (disk_of was.journal)) (d.faults (disk_of mid.journal))) (fault_of fault) counts))
+        (⊎_elim
+        (λ (past : (fault ≡ pieces.NotAPiece) × IsPastBounds group (end_by begins at (last_len was.journal))).
+        subst (λ (f : PieceFault). TakesPiece d was mid bytes (failed f)) (sym past.0)
+        (record {
+          leaves = (not_full, looks, past_none d basis was archive bytes begins at group read past.1);
+          faults = subst (λ (f : PieceFault). CountsIf (is_take_fault (failed f)) (d.faults (disk_of was.journal)) (d.faults (disk_of mid.journal))) past.0 counted;
+        }))
+        (λ (lost : FindsOriginal mid.told mid.book group (Err fault)). met archive.holds.sound fault lost counted)
+        finds)
 
     -- ---- what is put
 

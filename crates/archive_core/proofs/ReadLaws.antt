@@ -1,5 +1,5 @@
 -- An archive after a call that only reads its disk.
-use Rattle.std.proofs.Common.{◌≡◌, ℕ, ◌<◌, ◌≤◌, IsTrue, List, Some, Result, Ok, Err, sym, ap, subst, ◌∙◌, arith}
+use Rattle.std.proofs.Common.{◌≡◌, ℕ, ◌<◌, ◌≤◌, IsTrue, List, Some, Result, Ok, Err, refl, sym, ap, subst, ◌∙◌, arith}
 use Rattle.std.specs.Prelude.{count_by, length, slice_get}
 use Rattle.capture.proofs.GrowthLaws.{grows_from_itself}
 use Rattle.capture.specs.Captures.{captures}
@@ -18,6 +18,9 @@ use Rattle.archive_shelf.specs.Answers.{AgreesAt, Brings, ShowsNone}
 use Rattle.archive_shelf.specs.Storing.{is_revisit}
 use Rattle.archive_shelf.specs.declared.fault.BringFault.{BringFault}
 use Rattle.archive_shelf.specs.declared.fault.BringFault.TheVariants as brings
+use Rattle.archive_volumes.proofs.ChangeLaws.{DiskLaws, laws_muted}
+use Rattle.archive_volumes.proofs.StoreLaws.{quiet_itself}
+use Rattle.archive_volumes.proofs.WrittenLaws.{rests_itself}
 use Rattle.archive_volumes.specs.Bringing.{BringsFrom, OnlyReads}
 use Rattle.archive_volumes.specs.Held.{book_of}
 use Rattle.archive_core.proofs.FinishedLaws.{first_stay}
@@ -25,7 +28,7 @@ use Rattle.archive_core.specs.Finished.{FirstAreFinished}
 use Rattle.archive_core.specs.Holdings.{Holdings, IsArchive, contents_of}
 use Rattle.archive_core.specs.Looking.{OnlyLooks}
 use Rattle.archive_volumes.specs.Spots.{AreHeldWhole, ArePlaced, AreSpotsOf, AreWithin}
-use Rattle.archive_volumes.specs.Volumes.{HoldsBook, IsMeasured, IsQuiet}
+use Rattle.archive_volumes.specs.Volumes.{HoldsBook, IsMeasured, IsQuiet, muted}
 use Rattle.archive_volumes.specs.declared.volumes.Volumes.{Volumes}
 use Rattle.archive_core.proofs.ShownLaws.{shown_from}
 use Rattle.archive_core.proofs.TellingLaws.{quiet_muted}
@@ -86,6 +89,18 @@ module _ {D : Type 0} (d : Ghosts D) (held : Holdings D) (old new : Volumes D)
           (subst (λ (j : Journal D). IsQuiet d (disk_of j) (disk_of new.journal)) (sym journal_is) reads.quiet);
     };
   }
+
+-- where nothing was asked of the disk
+pub looks_itself : {D : Type 0} (d : Ghosts D) → DiskLaws d → (was : Holdings D) → OnlyLooks d was was
+looks_itself d laws was = record {
+  others = refl;
+  extent = refl;
+  bytes = λ tells. rests_itself d (disk_of was.journal);
+  unwritten = record {
+    reading = λ alone told. refl;
+    crash = quiet_itself (muted was.told d) (laws_muted d was.told laws) (disk_of was.journal);
+  };
+}
 
 -- an entry that is shown under a number is that of the book's capture
 pub agrees : {D : Type 0} (d : Ghosts D) (held : Holdings D) (number : ℕ) → IsArchive d held → IsTrue held.told

@@ -1,17 +1,17 @@
 //! How an archive takes the piece of another one's capture.
-ghost use Rattle.std.specs.Prelude.{◌<◌, ◌≡◌, IfOk, OnOk, Some, length, vec_len};
-ghost use Rattle.std.specs.Vec.{vec_capacity};
+ghost use Rattle.std.specs.Prelude.{◌<◌, ◌≡◌, length};
 ghost use Rattle.capture.specs.Captures.{captures};
 ghost use Rattle.warc_journal.specs.Journals.{disk_of, last_len};
 ghost use Rattle.warc_scan.specs.Groups.{IsGroup};
 ghost use Rattle.archive_shelf.specs.Answers.{CountsIf};
 ghost use Rattle.archive_pieces.specs.PieceFaults.{is_take_fault, store_fault_as};
+ghost use Rattle.archive_core.specs.Holdings.{IsArchive};
 ghost use Rattle.archive_core.specs.Looking.{OnlyLooks};
-ghost use Rattle.archive_pieces.specs.PieceOriginals.{FindsOriginal, IsNextGroup};
+ghost use Rattle.archive_pieces.specs.PieceOriginals.{IsNextGroup};
 ghost use Rattle.archive_pieces.specs.PieceParts.{IsFoundIn};
-ghost use Rattle.archive_pieces.specs.PieceReady.{IsWithinBounds, MayHold, RefersSo, end_in};
+ghost use Rattle.archive_pieces.specs.PieceReady.{IsWithinBounds, MayHold, RefersSo, end_by, end_in};
 ghost use Rattle.archive_core.specs.TakingPieces.{Puts, TakesPiece};
-ghost use Rattle.archive_core.specs.steps.Taking.{parts_as};
+ghost use Rattle.archive_core.specs.steps.Taking.{FindsWithin, HasText, parts_as};
 
 use crate::Archive;
 use crate::index::enter_ready;
@@ -21,10 +21,8 @@ use archive_pieces::{
     Found, PieceFault, end_of, make_piece_ready, original_of, passes_bounds, read_piece,
 };
 use archive_shelf::StoreFault;
-use archive_volumes::{Spot, reserve_kept};
-use capture::{Bytes, Memory};
+use archive_volumes::reserve_kept;
 use disk_model::Disk;
-use revisit_table::Digests;
 use std::alloc::Global;
 use warc_scan::Group;
 
@@ -48,22 +46,14 @@ fn fault_of(fault: StoreFault) -> PieceFault
     }
 }
 
-/// Makes room for the capture of a group, and copies the head of its response.
-fn head_with_room(
-    alloc: Global,
-    spots: &mut Vec<Spot>,
-    table: &mut Digests,
-    group: &Group,
-) -> Result<Bytes, Memory>
-    ensures room { OnOk result (vec_len spots.new < vec_capacity spots.new) }
-    ensures reserved { OnOk result (table.new.reserved ≡ Some group.now.digest) }
-    ensures spots { spots.new.items ≡ spots.old.items }
-    ensures table { table.new.kept ≡ table.old.kept }
-    ensures head { IfOk result (λ head. head ≡ group.now.stored.head) }
+/// The head of a group's response as it stands in the group's text.
+fn head_in<'t>(text: &'t [u8], group: &Group) -> &'t [u8]
+    requires { HasText text.now group.now }
+    ensures { result.now ≡ group.now.stored.head }
 {
-    reserve_kept(alloc, spots, table, &group.digest)?;
-    let head = group.stored.head.copy()?;
-    Ok(head)
+    let (_, behind) = text.split_at(group.head_at as usize);
+    let (head, _) = behind.split_at(group.stored.head.as_slice().len());
+    head
 }
 
 impl<D: Disk> Archive<D> {
@@ -98,30 +88,32 @@ impl<D: Disk> Archive<D> {
         ensures { TakesPiece D.Disk self.old self.new bytes.now result }
     {
         storing_has_a_basis();
-        let end = end_of(found.begins, found.at, self.volumes.journal.last_len());
-        if passes_bounds(&found.group, end) {
-            return Err(PieceFault::NotAPiece);
-        }
-        let first = self.original_in(alloc, &found.group)?;
+        let first = self.original_in(alloc, &found)?;
         let Found { begins, at, group } = found;
         let (_, text) = bytes.split_at(at as usize);
         self.put_piece(alloc, text, begins, group, first)
     }
 
-    /// The capture to which a group refers that is to be the next one, if it refers to any.
-    fn original_in(&mut self, alloc: Global, group: &Group) -> Result<Option<u32>, PieceFault>
-        requires { IsNextGroup self.old.book group.now }
-        ensures finds { FindsOriginal self.new.told self.new.book group.now result }
+    /// The capture to which the group of a piece refers that is to be the next one, if it refers to any. One that passes a bound is
+    /// `NotAPiece`, before anything is read.
+    fn original_in(&mut self, alloc: Global, found: &Found) -> Result<Option<u32>, PieceFault>
+        requires { IsNextGroup self.old.book found.now.group }
+        ensures finds { FindsWithin self.new.told self.new.book found.now.group (end_by found.now.begins found.now.at (last_len self.old.journal)) result }
         ensures looks { OnlyLooks D.Disk self.old self.new }
+        ensures was { IsArchive D.Disk self.old }
         ensures faults { CountsIf (is_take_fault result) (D.faults (disk_of self.old.journal)) (D.faults (disk_of self.new.journal)) }
     {
+        let end = end_of(found.begins, found.at, self.volumes.journal.last_len());
+        if passes_bounds(&found.group, end) {
+            return Err(PieceFault::NotAPiece);
+        }
         original_of(
             &self.told,
             alloc,
             &mut self.volumes,
             self.spots.as_slice(),
             &self.table,
-            group,
+            &found.group,
         )
     }
 
@@ -146,11 +138,11 @@ impl<D: Disk> Archive<D> {
         storing_has_a_basis();
         reading_laws();
         let number = self.spots.len() as u32;
-        let head = head_with_room(alloc, &mut self.spots, &mut self.table, &group)?;
+        reserve_kept(alloc, &mut self.spots, &mut self.table, &group.digest)?;
+        let head = head_in(text, &group);
         let ready = make_piece_ready(alloc, &mut self.volumes, text, begins, group, first)?;
         let at = self.volumes.record_at(&ready, number);
-        let entered = enter_ready(alloc, &mut self.index, ready, head.as_slice(), at)?;
-        drop(head);
+        let entered = enter_ready(alloc, &mut self.index, ready, head, at)?;
         match self
             .volumes
             .commit(&self.told, &mut self.spots, &mut self.table, entered)

@@ -1,15 +1,36 @@
-use Rattle.std.proofs.Common.{List, refl, sym, ap, subst, ◌∙◌}
+use Rattle.std.proofs.Common.{ℕ, List, inl, refl, sym, ap, subst, ◌∙◌}
 use Rattle.capture.specs.declared.book.Book.{Book}
-use Rattle.warc_journal.specs.Journals.{texts}
+use Rattle.warc_journal.specs.Journals.{last_len, texts}
+use Rattle.archive_volumes.proofs.ChangeLaws.{DiskLaws}
 use Rattle.archive_volumes.specs.Held.{book_of}
 use Rattle.archive_volumes.specs.Spots.{AreHeldWhole, ArePlaced, AreWithin, whole_from}
 use Rattle.archive_volumes.specs.declared.spot.Spot.{Spot}
-use Rattle.archive_core.specs.Holdings.{Holdings}
+use Rattle.archive_core.specs.Holdings.{Holdings, IsArchive}
 use Rattle.archive_core.specs.Looking.{OnlyLooks}
 use Rattle.archive_pieces.specs.PieceOriginals.{FindsOriginal, IsNextGroup}
+use Rattle.archive_pieces.specs.PieceReady.{IsPastBounds, IsWithinBounds, end_by}
 use Rattle.archive_core.specs.View.{holdings_of}
+use Rattle.archive_core.proofs.PieceTakenLaws.{finds_within}
 use Rattle.archive_core.proofs.ReadLaws as laws
+use Rattle.archive_core.proofs.archive.Archive.original_in.Given.{Over}
 use Rattle.archive_core.proofs.archive.Archive.original_in.Goals as goal
+
+-- what is asked of the disk
+disk_laws : (g : Over) → DiskLaws g.D.Disk
+disk_laws g = record { earlier = g.met.D.Disk.earlier; now_counts = g.met.D.Disk.now_counts; now_only = g.met.D.Disk.now_only }
+
+pub returns-then-passes_bounds-clause-finds : goal.returns-then-passes_bounds-clause-finds
+returns-then-passes_bounds-clause-finds g c =
+    let found = c.args.found.now in
+    let end = c.end_of-end.ensures ∙ ap (λ (n : ℕ). end_by found.begins found.at n)
+    (c.last_len.ensures.length ∙ ap (λ (held : Holdings _). last_len held.journal) c.self.view_is) in
+    inl (refl, subst (λ (n : ℕ). IsPastBounds found.group n) end (c.passes_bounds.ensures.past c.if-passes_bounds.true))
+
+pub returns-then-passes_bounds-clause-looks : goal.returns-then-passes_bounds-clause-looks
+returns-then-passes_bounds-clause-looks g c = laws.looks_itself g.D.Disk (disk_laws g) c.args.self.now
+
+pub returns-then-passes_bounds-clause-was : goal.returns-then-passes_bounds-clause-was
+returns-then-passes_bounds-clause-was g c = subst (λ (held : Holdings _). IsArchive g.D.Disk held) c.self.view_is c.self.invariant
 
 pub original_of-requires-clause-holds : goal.original_of-requires-clause-holds
 original_of-requires-clause-holds g c = c.self.invariant.holds
@@ -33,7 +54,7 @@ original_of-requires-clause-table g c =
 
 pub original_of-requires-clause-group : goal.original_of-requires-clause-group
 original_of-requires-clause-group g c =
-    subst (λ (held : Holdings _). IsNextGroup held.book c.args.group.now) (sym c.self.view_is) c.requires
+    subst (λ (held : Holdings _). IsNextGroup held.book c.args.found.now.group) (sym c.self.view_is) c.requires
 
 pub invariant_of-self : goal.invariant_of-self
 invariant_of-self g c =
@@ -41,8 +62,16 @@ invariant_of-self g c =
 
 pub returns-clause-finds : goal.returns-clause-finds
 returns-clause-finds g c =
+    let found = c.args.found.now in
+    let end = c.end_of-end.ensures ∙ ap (λ (n : ℕ). end_by found.begins found.at n)
+    (c.last_len.ensures.length ∙ ap (λ (held : Holdings _). last_len held.journal) c.self.view_is) in
     let same = laws.same_book g.D.Disk (holdings_of c.self.inside) c.self.inside.volumes c.original_of.new.volumes refl refl c.original_of.ensures.reads in
-    subst (λ (b : Book). FindsOriginal c.self.inside.told.value b c.args.group.now c.original_of.result) (sym same) c.original_of.ensures.finds
+    finds_within c.self.inside.told.value (book_of c.original_of.new.volumes.held) found.group (end_by found.begins found.at (last_len c.args.self.now.journal))
+    (subst (λ (n : ℕ). IsWithinBounds found.group n) end (c.passes_bounds.ensures.within c.if-passes_bounds.false)) c.original_of.result
+    (subst (λ (b : Book). FindsOriginal c.self.inside.told.value b found.group c.original_of.result) (sym same) c.original_of.ensures.finds)
+
+pub returns-clause-was : goal.returns-clause-was
+returns-clause-was g c = subst (λ (held : Holdings _). IsArchive g.D.Disk held) c.self.view_is c.self.invariant
 
 pub returns-clause-looks : goal.returns-clause-looks
 returns-clause-looks g c =

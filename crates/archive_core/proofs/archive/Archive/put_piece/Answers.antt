@@ -1,4 +1,4 @@
-use Rattle.std.proofs.Common.{rules, ◌≡◌, ◌+◌, ℕ, List, length, Some, Ok, Err, refl, sym, ap, subst, ◌∙◌, arith, ◌++◌, [], ◌∷◌}
+use Rattle.std.proofs.Common.{◌≡◌, ◌+◌, ℕ, List, length, Some, Ok, Err, refl, sym, ap, subst, ◌∙◌, arith, ◌++◌, [], ◌∷◌}
 use Rattle.std.specs.Prelude.{is_some}
 use Rattle.capture.specs.Captures.{captures}
 use Rattle.capture.specs.Message.{IsResponseHeadText}
@@ -20,9 +20,13 @@ use Rattle.archive_pieces.specs.declared.fault.PieceFault.TheVariants as pieces
 use Rattle.archive_core.proofs.ExitLaws as exits
 use Rattle.archive_core.proofs.NamedLaws.{before_at}
 use Rattle.archive_core.proofs.PieceExitLaws as laws
+use Rattle.archive_core.proofs.archive.Archive.put_piece.Given.{Over}
 use Rattle.archive_core.proofs.archive.Archive.put_piece.Goals as goal
 use Rattle.archive_core.specs.steps.Taking.{parts_as}
 use Rattle.archive_volumes.specs.Ready.{spot_in}
+
+pub head_in-head-requires : goal.head_in-head-requires
+head_in-head-requires g c = record { namespace = c.args.self.now.book.namespace; number = length (captures c.args.self.now.book); is = c.requires.group }
 
 pub make_piece_ready-requires-clause-holds : goal.make_piece_ready-requires-clause-holds
 make_piece_ready-requires-clause-holds g c =
@@ -96,7 +100,7 @@ enter_ready-requires-clause-is g c =
     let t = laws.taking g.D.Disk c.args.self.now was c.self.inside.volumes now text group first begins ready c.self.view_is refl refl c.self.invariant
     c.requires.not_full c.requires.group c.requires.refers c.requires.holds c.requires.bounds c.make_piece_ready.ensures.journal
     c.make_piece_ready.ensures.book c.in_ok-ready.ensures.ready c.in_ok-ready.ensures.room in
-    c.as_slice.ensures ∙ c.in_ok-head.ensures.head ∙ sym (laws.head_same group.stored first) ∙ sym (ap (λ (s : Stored). s.head) t.ready_is.stored)
+    c.head_in-head.ensures ∙ sym (laws.head_same group.stored first) ∙ sym (ap (λ (s : Stored). s.head) t.ready_is.stored)
 
 pub enter_ready-requires-clause-head : goal.enter_ready-requires-clause-head
 enter_ready-requires-clause-head g c =
@@ -110,8 +114,8 @@ enter_ready-requires-clause-head g c =
     let t = laws.taking g.D.Disk c.args.self.now was c.self.inside.volumes now text group first begins ready c.self.view_is refl refl c.self.invariant
     c.requires.not_full c.requires.group c.requires.refers c.requires.holds c.requires.bounds c.make_piece_ready.ensures.journal
     c.make_piece_ready.ensures.book c.in_ok-ready.ensures.ready c.in_ok-ready.ensures.room in
-    let is : c.as_slice.result.now ≡ (stored_in ready.stored).head =
-    c.as_slice.ensures ∙ c.in_ok-head.ensures.head ∙ sym (laws.head_same group.stored first) ∙ sym (ap (λ (s : Stored). s.head) t.ready_is.stored) in
+    let is : c.head_in-head.result.now ≡ (stored_in ready.stored).head =
+    c.head_in-head.ensures ∙ sym (laws.head_same group.stored first) ∙ sym (ap (λ (s : Stored). s.head) t.ready_is.stored) in
     let there = laws.head_known g.D.Disk c.storing_has_a_basis.ensures c.reading_laws.ensures was now text group first begins ready t in
     (there.head, subst (λ (h : List ℕ). IsResponseHeadText h there.head) (sym is) there.is)
 
@@ -122,12 +126,14 @@ enter_ready-requires-clause-indexed g c =
 pub enter_ready-requires-clause-behind : goal.enter_ready-requires-clause-behind
 enter_ready-requires-clause-behind g c =
     let was : Holdings _ = holdings_of c.self.inside in
-    let many : c.len-number.result ≡ length c.self.inside.spots.items = search rules in
+    let many : c.len-number.result ≡ length c.self.inside.spots.items = omega (arith, c.len-number.ensures, c.self.inside.spots.ok.0) in
     before_at c.make_piece_ready.new.volumes c.in_ok-ready.ready c.record_at-at.result c.len-number.result (length (captures was.book)) c.record_at-at.ensures
     (many ∙ c.self.invariant.spots.count) was.index c.self.invariant.counted.below
 
-pub commit-requires-clause-ready : goal.commit-requires-clause-ready
-commit-requires-clause-ready g c =
+-- all that is known of the piece once its entry is in the index
+taken : (g : Over) (c : goal.After-commit-arg-4-1 g)
+    → laws.IsTaking g.D.Disk (holdings_of c.self.inside) c.make_piece_ready.new.volumes c.args.text.now c.args.group c.args.first c.args.begins c.in_ok-entered.entered
+taken g c =
     let was : Holdings _ = holdings_of c.self.inside in
     let now = c.make_piece_ready.new.volumes in
     let ready = c.in_ok-entered.entered in
@@ -135,138 +141,80 @@ commit-requires-clause-ready g c =
     let group = c.args.group in
     let first = c.args.first in
     let begins = c.args.begins in
-    let t = laws.taking g.D.Disk c.args.self.now was c.self.inside.volumes now text group first begins ready c.self.view_is refl refl c.self.invariant
+    laws.taking g.D.Disk c.args.self.now was c.self.inside.volumes now text group first begins ready c.self.view_is refl refl c.self.invariant
     c.requires.not_full c.requires.group c.requires.refers c.requires.holds c.requires.bounds c.make_piece_ready.ensures.journal
     c.make_piece_ready.ensures.book (laws.handed_back text group first c.in_ok-ready.ready ready c.in_ok-entered.ensures.same c.in_ok-ready.ensures.ready)
-    (laws.room_back c.self.inside.volumes now begins c.in_ok-ready.ready ready c.in_ok-entered.ensures.same c.in_ok-ready.ensures.room) in
-    laws.commit_ready g.D.Disk c.storing_has_a_basis.ensures c.reading_laws.ensures was now text group first begins ready t
+    (laws.room_back c.self.inside.volumes now begins c.in_ok-ready.ready ready c.in_ok-entered.ensures.same c.in_ok-ready.ensures.room)
+
+pub commit-requires-clause-ready : goal.commit-requires-clause-ready
+commit-requires-clause-ready g c =
+    laws.commit_ready g.D.Disk c.storing_has_a_basis.ensures c.reading_laws.ensures (holdings_of c.self.inside) c.make_piece_ready.new.volumes
+    c.args.text.now c.args.group c.args.first c.args.begins c.in_ok-entered.entered (taken g c)
 
 pub commit-requires-clause-holds : goal.commit-requires-clause-holds
-commit-requires-clause-holds g c =
-    let was : Holdings _ = holdings_of c.self.inside in
-    let now = c.make_piece_ready.new.volumes in
-    let ready = c.in_ok-ready.ready in
-    let text = c.args.text.now in
-    let group = c.args.group in
-    let first = c.args.first in
-    let begins = c.args.begins in
-    let t = laws.taking g.D.Disk c.args.self.now was c.self.inside.volumes now text group first begins ready c.self.view_is refl refl c.self.invariant
-    c.requires.not_full c.requires.group c.requires.refers c.requires.holds c.requires.bounds c.make_piece_ready.ensures.journal
-    c.make_piece_ready.ensures.book c.in_ok-ready.ensures.ready c.in_ok-ready.ensures.room in
-    t.is.holds
+commit-requires-clause-holds g c = (taken g c).is.holds
 
 pub commit-requires-clause-measured : goal.commit-requires-clause-measured
-commit-requires-clause-measured g c =
-    let was : Holdings _ = holdings_of c.self.inside in
-    let now = c.make_piece_ready.new.volumes in
-    let ready = c.in_ok-ready.ready in
-    let text = c.args.text.now in
-    let group = c.args.group in
-    let first = c.args.first in
-    let begins = c.args.begins in
-    let t = laws.taking g.D.Disk c.args.self.now was c.self.inside.volumes now text group first begins ready c.self.view_is refl refl c.self.invariant
-    c.requires.not_full c.requires.group c.requires.refers c.requires.holds c.requires.bounds c.make_piece_ready.ensures.journal
-    c.make_piece_ready.ensures.book c.in_ok-ready.ensures.ready c.in_ok-ready.ensures.room in
-    t.is.measured
+commit-requires-clause-measured g c = (taken g c).is.measured
 
 pub commit-requires-clause-spots : goal.commit-requires-clause-spots
 commit-requires-clause-spots g c =
-    let was : Holdings _ = holdings_of c.self.inside in
-    let now = c.make_piece_ready.new.volumes in
-    let ready = c.in_ok-ready.ready in
-    let text = c.args.text.now in
-    let group = c.args.group in
-    let first = c.args.first in
-    let begins = c.args.begins in
-    let t = laws.taking g.D.Disk c.args.self.now was c.self.inside.volumes now text group first begins ready c.self.view_is refl refl c.self.invariant
-    c.requires.not_full c.requires.group c.requires.refers c.requires.holds c.requires.bounds c.make_piece_ready.ensures.journal
-    c.make_piece_ready.ensures.book c.in_ok-ready.ensures.ready c.in_ok-ready.ensures.room in
-    subst (λ (l : List Spot). AreSpotsOf (book_of now.held) l) (sym c.head_with_room.ensures.spots) t.is.spots
+    subst (λ (l : List Spot). AreSpotsOf (book_of c.make_piece_ready.new.volumes.held) l) (sym c.reserve_kept.ensures.spots) (taken g c).is.spots
 
 pub commit-requires-clause-within : goal.commit-requires-clause-within
 commit-requires-clause-within g c told =
-    let was : Holdings _ = holdings_of c.self.inside in
-    let now = c.make_piece_ready.new.volumes in
-    let ready = c.in_ok-ready.ready in
-    let text = c.args.text.now in
-    let group = c.args.group in
-    let first = c.args.first in
-    let begins = c.args.begins in
-    let t = laws.taking g.D.Disk c.args.self.now was c.self.inside.volumes now text group first begins ready c.self.view_is refl refl c.self.invariant
-    c.requires.not_full c.requires.group c.requires.refers c.requires.holds c.requires.bounds c.make_piece_ready.ensures.journal
-    c.make_piece_ready.ensures.book c.in_ok-ready.ensures.ready c.in_ok-ready.ensures.room in
-    subst (AreWithin (texts g.D.Disk now.journal)) (sym c.head_with_room.ensures.spots) (t.is.within told)
+    subst (AreWithin (texts g.D.Disk c.make_piece_ready.new.volumes.journal)) (sym c.reserve_kept.ensures.spots) ((taken g c).is.within told)
 
 pub commit-requires-clause-placed : goal.commit-requires-clause-placed
 commit-requires-clause-placed g c told =
-    let was : Holdings _ = holdings_of c.self.inside in
     let now = c.make_piece_ready.new.volumes in
-    let ready = c.in_ok-ready.ready in
-    let text = c.args.text.now in
-    let group = c.args.group in
-    let first = c.args.first in
-    let begins = c.args.begins in
-    let t = laws.taking g.D.Disk c.args.self.now was c.self.inside.volumes now text group first begins ready c.self.view_is refl refl c.self.invariant
-    c.requires.not_full c.requires.group c.requires.refers c.requires.holds c.requires.bounds c.make_piece_ready.ensures.journal
-    c.make_piece_ready.ensures.book c.in_ok-ready.ensures.ready c.in_ok-ready.ensures.room in
-    subst (λ (l : List Spot). ArePlaced (texts g.D.Disk now.journal) (book_of now.held) l) (sym c.head_with_room.ensures.spots) (t.is.placed told)
+    subst (λ (l : List Spot). ArePlaced (texts g.D.Disk now.journal) (book_of now.held) l) (sym c.reserve_kept.ensures.spots) ((taken g c).is.placed told)
 
 pub commit-requires-clause-table : goal.commit-requires-clause-table
 commit-requires-clause-table g c =
-    c.head_with_room.ensures.table ∙ c.self.invariant.table ∙ sym (ap (λ (l : List Spot). whole_from 0 l) c.head_with_room.ensures.spots)
+    c.reserve_kept.ensures.table ∙ c.self.invariant.table ∙ sym (ap (λ (l : List Spot). whole_from 0 l) c.reserve_kept.ensures.spots)
 
 pub commit-requires-clause-space : goal.commit-requires-clause-space
 commit-requires-clause-space g c =
-    c.in_ok-head.ensures.room
+    c.in_ok-reserve_kept.ensures.room
 
 pub commit-requires-clause-reserved : goal.commit-requires-clause-reserved
 commit-requires-clause-reserved g c =
-    let was : Holdings _ = holdings_of c.self.inside in
-    let now = c.make_piece_ready.new.volumes in
-    let ready = c.in_ok-entered.entered in
-    let text = c.args.text.now in
-    let group = c.args.group in
-    let first = c.args.first in
-    let begins = c.args.begins in
-    let t = laws.taking g.D.Disk c.args.self.now was c.self.inside.volumes now text group first begins ready c.self.view_is refl refl c.self.invariant
-    c.requires.not_full c.requires.group c.requires.refers c.requires.holds c.requires.bounds c.make_piece_ready.ensures.journal
-    c.make_piece_ready.ensures.book (laws.handed_back text group first c.in_ok-ready.ready ready c.in_ok-entered.ensures.same c.in_ok-ready.ensures.ready)
-    (laws.room_back c.self.inside.volumes now begins c.in_ok-ready.ready ready c.in_ok-entered.ensures.same c.in_ok-ready.ensures.room) in
-    c.in_ok-head.ensures.reserved ∙ ap (λ (digest : List ℕ). Some digest) (sym t.ready_is.digest)
+    c.in_ok-reserve_kept.ensures.reserved ∙ ap (λ (digest : List ℕ). Some digest) (sym (taken g c).ready_is.digest)
 
 pub commit-requires-clause-few : goal.commit-requires-clause-few
 commit-requires-clause-few g c =
-    omega (arith, ap (λ (l : List Spot). length l) c.head_with_room.ensures.spots, c.self.invariant.spots.count, c.self.invariant.counted.few)
+    omega (arith, ap (λ (l : List Spot). length l) c.reserve_kept.ensures.spots, c.self.invariant.spots.count, c.self.invariant.counted.few)
 
 pub invariant_of-self : goal.invariant_of-self
 invariant_of-self g c =
     let was : Holdings _ = holdings_of c.self.inside in
-    exits.memory_archive g.D.Disk was (record was { journal = c.self.inside.volumes.journal; book = book_of c.self.inside.volumes.held; table = c.head_with_room.new.table; index = c.self.inside.index; spots = c.head_with_room.new.spots.items }) refl refl refl refl refl refl refl
-    c.self.invariant c.head_with_room.ensures.spots c.head_with_room.ensures.table refl
+    exits.memory_archive g.D.Disk was (record was { journal = c.self.inside.volumes.journal; book = book_of c.self.inside.volumes.held; table = c.reserve_kept.new.table; index = c.self.inside.index; spots = c.reserve_kept.new.spots.items }) refl refl refl refl refl refl refl
+    c.self.invariant c.reserve_kept.ensures.spots c.reserve_kept.ensures.table refl
 
-pub returns-in_err-head-clause-puts : goal.returns-in_err-head-clause-puts
-returns-in_err-head-clause-puts g c =
+pub returns-in_err-reserve_kept-clause-puts : goal.returns-in_err-reserve_kept-clause-puts
+returns-in_err-reserve_kept-clause-puts g c =
     let was : Holdings _ = holdings_of c.self.inside in
-    let is : Holdings _ = record was { journal = c.self.inside.volumes.journal; book = book_of c.self.inside.volumes.held; table = c.head_with_room.new.table; index = c.self.inside.index; spots = c.head_with_room.new.spots.items } in
+    let is : Holdings _ = record was { journal = c.self.inside.volumes.journal; book = book_of c.self.inside.volumes.held; table = c.reserve_kept.new.table; index = c.self.inside.index; spots = c.reserve_kept.new.spots.items } in
     subst (λ (held : Holdings _). Puts g.D.Disk held is (parts_as c.args.text.now c.args.group c.args.first c.args.begins) c.from_residual.result) c.self.view_is
     (laws.memory_exit g.D.Disk was is c.args.text.now c.args.group c.args.first c.args.begins
     (laws.untouched g.D.Disk was is refl refl refl refl refl refl) c.from_residual.result c.from_residual.ensures.1)
 
-pub returns-in_err-head-clause-faults : goal.returns-in_err-head-clause-faults
-returns-in_err-head-clause-faults g c =
+pub returns-in_err-reserve_kept-clause-faults : goal.returns-in_err-reserve_kept-clause-faults
+returns-in_err-reserve_kept-clause-faults g c =
     laws.memory_faults g.D.Disk c.args.self.now.journal (c.self.inside.volumes.journal)
     (refl ∙ ap (λ (held : Holdings _). held.journal) c.self.view_is) c.from_residual.result c.from_residual.ensures.1
 
 pub invariant_of-self-in_err-ready : goal.invariant_of-self-in_err-ready
 invariant_of-self-in_err-ready g c =
     let was : Holdings _ = holdings_of c.self.inside in
-    exits.memory_archive g.D.Disk was (record was { journal = c.make_piece_ready.new.volumes.journal; book = book_of c.make_piece_ready.new.volumes.held; table = c.head_with_room.new.table; index = c.self.inside.index; spots = c.head_with_room.new.spots.items }) c.make_piece_ready.ensures.journal c.make_piece_ready.ensures.book refl refl refl refl refl
-    c.self.invariant c.head_with_room.ensures.spots c.head_with_room.ensures.table refl
+    exits.memory_archive g.D.Disk was (record was { journal = c.make_piece_ready.new.volumes.journal; book = book_of c.make_piece_ready.new.volumes.held; table = c.reserve_kept.new.table; index = c.self.inside.index; spots = c.reserve_kept.new.spots.items }) c.make_piece_ready.ensures.journal c.make_piece_ready.ensures.book refl refl refl refl refl
+    c.self.invariant c.reserve_kept.ensures.spots c.reserve_kept.ensures.table refl
 
 pub returns-in_err-ready-clause-puts : goal.returns-in_err-ready-clause-puts
 returns-in_err-ready-clause-puts g c =
     let was : Holdings _ = holdings_of c.self.inside in
-    let is : Holdings _ = record was { journal = c.make_piece_ready.new.volumes.journal; book = book_of c.make_piece_ready.new.volumes.held; table = c.head_with_room.new.table; index = c.self.inside.index; spots = c.head_with_room.new.spots.items } in
+    let is : Holdings _ = record was { journal = c.make_piece_ready.new.volumes.journal; book = book_of c.make_piece_ready.new.volumes.held; table = c.reserve_kept.new.table; index = c.self.inside.index; spots = c.reserve_kept.new.spots.items } in
     subst (λ (held : Holdings _). Puts g.D.Disk held is (parts_as c.args.text.now c.args.group c.args.first c.args.begins) c.from_residual-in_err-ready.result) c.self.view_is
     (laws.memory_exit g.D.Disk was is c.args.text.now c.args.group c.args.first c.args.begins
     (laws.untouched g.D.Disk was is c.make_piece_ready.ensures.journal c.make_piece_ready.ensures.book refl refl refl refl) c.from_residual-in_err-ready.result c.from_residual-in_err-ready.ensures.1)
@@ -279,13 +227,13 @@ returns-in_err-ready-clause-faults g c =
 pub invariant_of-self-in_err-entered : goal.invariant_of-self-in_err-entered
 invariant_of-self-in_err-entered g c =
     let was : Holdings _ = holdings_of c.self.inside in
-    exits.memory_archive g.D.Disk was (record was { journal = c.make_piece_ready.new.volumes.journal; book = book_of c.make_piece_ready.new.volumes.held; table = c.head_with_room.new.table; index = c.enter_ready.new.index; spots = c.head_with_room.new.spots.items }) c.make_piece_ready.ensures.journal c.make_piece_ready.ensures.book c.in_err-entered.ensures.refused refl refl refl refl
-    c.self.invariant c.head_with_room.ensures.spots c.head_with_room.ensures.table refl
+    exits.memory_archive g.D.Disk was (record was { journal = c.make_piece_ready.new.volumes.journal; book = book_of c.make_piece_ready.new.volumes.held; table = c.reserve_kept.new.table; index = c.enter_ready.new.index; spots = c.reserve_kept.new.spots.items }) c.make_piece_ready.ensures.journal c.make_piece_ready.ensures.book c.in_err-entered.ensures.refused refl refl refl refl
+    c.self.invariant c.reserve_kept.ensures.spots c.reserve_kept.ensures.table refl
 
 pub returns-in_err-entered-clause-puts : goal.returns-in_err-entered-clause-puts
 returns-in_err-entered-clause-puts g c =
     let was : Holdings _ = holdings_of c.self.inside in
-    let is : Holdings _ = record was { journal = c.make_piece_ready.new.volumes.journal; book = book_of c.make_piece_ready.new.volumes.held; table = c.head_with_room.new.table; index = c.enter_ready.new.index; spots = c.head_with_room.new.spots.items } in
+    let is : Holdings _ = record was { journal = c.make_piece_ready.new.volumes.journal; book = book_of c.make_piece_ready.new.volumes.held; table = c.reserve_kept.new.table; index = c.enter_ready.new.index; spots = c.reserve_kept.new.spots.items } in
     subst (λ (held : Holdings _). Puts g.D.Disk held is (parts_as c.args.text.now c.args.group c.args.first c.args.begins) c.from_residual-in_err-entered.result) c.self.view_is
     (laws.memory_exit g.D.Disk was is c.args.text.now c.args.group c.args.first c.args.begins
     (laws.untouched g.D.Disk was is c.make_piece_ready.ensures.journal c.make_piece_ready.ensures.book c.in_err-entered.ensures.refused refl refl refl) c.from_residual-in_err-entered.result c.from_residual-in_err-entered.ensures.1)
@@ -310,7 +258,7 @@ invariant_of-self-in-Err g c =
     (laws.room_back c.self.inside.volumes now begins c.in_ok-ready.ready ready c.in_ok-entered.ensures.same c.in_ok-ready.ensures.room) in
     let has = c.in_ok-entered.ensures.entered in
     let at_is = exits.record_back now c.in_ok-ready.ready ready c.record_at-at.result c.len-number.result c.in_ok-entered.ensures.same c.record_at-at.ensures in
-    let many : c.len-number.result ≡ length c.self.inside.spots.items = search rules in
+    let many : c.len-number.result ≡ length c.self.inside.spots.items = omega (arith, c.len-number.ensures, c.self.inside.spots.ok.0) in
     let count : c.len-number.result ≡ length (captures was.book) = many ∙ c.self.invariant.spots.count in
     let number : c.len-number.result ≡ length (captures (book_of now.held)) =
     count ∙ sym (ap (λ (b : Book). length (captures b)) c.make_piece_ready.ensures.book) in
@@ -320,9 +268,9 @@ invariant_of-self-in-Err g c =
     laws.refused_archive g.D.Disk c.storing_has_a_basis.ensures c.reading_laws.ensures was now text group first begins ready t c.record_at-at.result c.len-number.result at_is number has.entry has.enters
     c.commit.new.self.journal (book_of c.commit.new.self.held) c.commit.new.table c.take_back.new.self c.commit.new.spots.items
     c.commit.ensures.holds c.commit.ensures.measured c.commit.ensures.table c.commit.ensures.spots c.commit.ensures.within c.commit.ensures.placed
-    (λ untold. c.commit.ensures.made (subst (λ (l : List Spot). AreHeldWhole (book_of now.held) l) (sym c.head_with_room.ensures.spots) (t.is.made untold)))
+    (λ untold. c.commit.ensures.made (subst (λ (l : List Spot). AreHeldWhole (book_of now.held) l) (sym c.reserve_kept.ensures.spots) (t.is.made untold)))
     c.commit.ensures.others
-    c.in-Err.ensures.left back c.in-Err.field-0 (c.in-Err.ensures.unkept ∙ c.head_with_room.ensures.spots) c.in-Err.ensures.writes
+    c.in-Err.ensures.left back c.in-Err.field-0 (c.in-Err.ensures.unkept ∙ c.reserve_kept.ensures.spots) c.in-Err.ensures.writes
 
 pub returns-in-Err-clause-puts : goal.returns-in-Err-clause-puts
 returns-in-Err-clause-puts g c =
@@ -339,7 +287,7 @@ returns-in-Err-clause-puts g c =
     (laws.room_back c.self.inside.volumes now begins c.in_ok-ready.ready ready c.in_ok-entered.ensures.same c.in_ok-ready.ensures.room) in
     let has = c.in_ok-entered.ensures.entered in
     let at_is = exits.record_back now c.in_ok-ready.ready ready c.record_at-at.result c.len-number.result c.in_ok-entered.ensures.same c.record_at-at.ensures in
-    let many : c.len-number.result ≡ length c.self.inside.spots.items = search rules in
+    let many : c.len-number.result ≡ length c.self.inside.spots.items = omega (arith, c.len-number.ensures, c.self.inside.spots.ok.0) in
     let count : c.len-number.result ≡ length (captures was.book) = many ∙ c.self.invariant.spots.count in
     let number : c.len-number.result ≡ length (captures (book_of now.held)) =
     count ∙ sym (ap (λ (b : Book). length (captures b)) c.make_piece_ready.ensures.book) in
@@ -359,7 +307,7 @@ returns-in-Err-clause-puts g c =
     (laws.refused_puts g.D.Disk c.storing_has_a_basis.ensures c.reading_laws.ensures was now text group first begins ready t c.record_at-at.result c.len-number.result at_is number has.entry has.enters
     c.commit.new.self.journal (book_of c.commit.new.self.held) c.commit.new.table c.take_back.new.self c.commit.new.spots.items
     c.commit.ensures.holds c.commit.ensures.measured c.commit.ensures.table c.commit.ensures.spots c.commit.ensures.within c.commit.ensures.placed
-    (λ untold. c.commit.ensures.made (subst (λ (l : List Spot). AreHeldWhole (book_of now.held) l) (sym c.head_with_room.ensures.spots) (t.is.made untold)))
+    (λ untold. c.commit.ensures.made (subst (λ (l : List Spot). AreHeldWhole (book_of now.held) l) (sym c.reserve_kept.ensures.spots) (t.is.made untold)))
     c.commit.ensures.others
     c.in-Err.ensures.left back c.in-Err.field-0 c.in-Err.ensures.writes c.in-Err.ensures.bytes)
 
@@ -386,7 +334,7 @@ invariant_of-self-in-Ok g c =
     (laws.room_back c.self.inside.volumes now begins c.in_ok-ready.ready ready c.in_ok-entered.ensures.same c.in_ok-ready.ensures.room) in
     let has = c.in_ok-entered.ensures.entered in
     let at_is = exits.record_back now c.in_ok-ready.ready ready c.record_at-at.result c.len-number.result c.in_ok-entered.ensures.same c.record_at-at.ensures in
-    let many : c.len-number.result ≡ length c.self.inside.spots.items = search rules in
+    let many : c.len-number.result ≡ length c.self.inside.spots.items = omega (arith, c.len-number.ensures, c.self.inside.spots.ok.0) in
     let count : c.len-number.result ≡ length (captures was.book) = many ∙ c.self.invariant.spots.count in
     let number : c.len-number.result ≡ length (captures (book_of now.held)) =
     count ∙ sym (ap (λ (b : Book). length (captures b)) c.make_piece_ready.ensures.book) in
@@ -394,10 +342,10 @@ invariant_of-self-in-Ok g c =
     laws.stored_archive g.D.Disk c.storing_has_a_basis.ensures c.reading_laws.ensures was now text group first begins ready t c.record_at-at.result c.len-number.result at_is number has.entry has.enters
     c.commit.new.self.journal (book_of c.commit.new.self.held) c.commit.new.table c.enter_ready.new.index c.commit.new.spots.items
     c.commit.ensures.holds c.commit.ensures.measured c.commit.ensures.table c.commit.ensures.spots c.commit.ensures.within c.commit.ensures.placed
-    (λ untold. c.commit.ensures.made (subst (λ (l : List Spot). AreHeldWhole (book_of now.held) l) (sym c.head_with_room.ensures.spots) (t.is.made untold)))
+    (λ untold. c.commit.ensures.made (subst (λ (l : List Spot). AreHeldWhole (book_of now.held) l) (sym c.reserve_kept.ensures.spots) (t.is.made untold)))
     c.commit.ensures.others
     (c.self.inside.revisits + c.revisits_in.result) c.in-Ok.ensures.stored has.is c.in-Ok.field-0
-    (c.in-Ok.ensures.kept ∙ ap (λ (l : List Spot). l ++ spot_in now ready ∷ []) c.head_with_room.ensures.spots) c.in-Ok.ensures.writes c.enter_ready.ensures.indexed more
+    (c.in-Ok.ensures.kept ∙ ap (λ (l : List Spot). l ++ spot_in now ready ∷ []) c.reserve_kept.ensures.spots) c.in-Ok.ensures.writes c.enter_ready.ensures.indexed more
 
 pub returns-in-Ok-clause-puts : goal.returns-in-Ok-clause-puts
 returns-in-Ok-clause-puts g c =
@@ -414,7 +362,7 @@ returns-in-Ok-clause-puts g c =
     (laws.room_back c.self.inside.volumes now begins c.in_ok-ready.ready ready c.in_ok-entered.ensures.same c.in_ok-ready.ensures.room) in
     let has = c.in_ok-entered.ensures.entered in
     let at_is = exits.record_back now c.in_ok-ready.ready ready c.record_at-at.result c.len-number.result c.in_ok-entered.ensures.same c.record_at-at.ensures in
-    let many : c.len-number.result ≡ length c.self.inside.spots.items = search rules in
+    let many : c.len-number.result ≡ length c.self.inside.spots.items = omega (arith, c.len-number.ensures, c.self.inside.spots.ok.0) in
     let count : c.len-number.result ≡ length (captures was.book) = many ∙ c.self.invariant.spots.count in
     let number : c.len-number.result ≡ length (captures (book_of now.held)) =
     count ∙ sym (ap (λ (b : Book). length (captures b)) c.make_piece_ready.ensures.book) in
@@ -432,6 +380,6 @@ returns-in-Ok-clause-puts g c =
     (laws.stored_puts g.D.Disk c.storing_has_a_basis.ensures c.reading_laws.ensures was now text group first begins ready t c.record_at-at.result c.len-number.result at_is number has.entry has.enters
     c.commit.new.self.journal (book_of c.commit.new.self.held) c.commit.new.table c.enter_ready.new.index c.commit.new.spots.items
     c.commit.ensures.holds c.commit.ensures.measured c.commit.ensures.table c.commit.ensures.spots c.commit.ensures.within c.commit.ensures.placed
-    (λ untold. c.commit.ensures.made (subst (λ (l : List Spot). AreHeldWhole (book_of now.held) l) (sym c.head_with_room.ensures.spots) (t.is.made untold)))
+    (λ untold. c.commit.ensures.made (subst (λ (l : List Spot). AreHeldWhole (book_of now.held) l) (sym c.reserve_kept.ensures.spots) (t.is.made untold)))
     c.commit.ensures.others
     (c.self.inside.revisits + c.revisits_in.result) c.in-Ok.ensures.stored has.is c.in-Ok.field-0 c.in-Ok.ensures.writes c.in-Ok.ensures.last_len c.in-Ok.ensures.bytes c.len-number.result number)
