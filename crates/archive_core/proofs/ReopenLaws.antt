@@ -58,6 +58,9 @@ outside files asked faults.Memory damage other book sound for its = tt
 
 -- ---- what may be opened of it
 
+whole_apart : depths.Whole ≡ depths.Checkpoints → ⊥
+whole_apart e = cc
+
 none_mine : (n m : ℕ) → n ≡ m → range_with_len n (m - n) ≡ []
 none_mine n m same = let none : m - n ≡ 0 = omega (arith, same) in ap (range_with_len n) none
 
@@ -239,7 +242,7 @@ module _ {D : Type 0} (d : Ghosts D) (laws : DiskLaws d) (disk : D) (asked : Opt
       rests = is.rests;
       quiet = is.quiet;
       faults = is.faults;
-      lined = λ (other : depths.Whole ≡ depths.Checkpoints). cc;
+      lined = λ other. absurd (whole_apart other);
     }
       where
         by : (k : Option Book) → MayBeKnown d disk asked k → IsTrue d.tells → IfSome k (λ book. SameBook held.book book)

@@ -1,4 +1,4 @@
-use Rattle.std.proofs.Common.{rules, ◌≡◌, ◌-◌, ◌≤◌, IsTrue, length, refl, sym, ap, subst, ◌∙◌, arith}
+use Rattle.std.proofs.Common.{◌≡◌, ◌-◌, ◌≤◌, IsTrue, length, refl, sym, ap, subst, ◌∙◌, arith}
 use Rattle.std.specs.Prelude.{count_by}
 use Rattle.capture.specs.declared.book.Book.{Book}
 use Rattle.revisit_table.specs.Table.{LazyTable, Table}
@@ -39,7 +39,7 @@ over-requires-clause-sound g c told =
     subst IsSound (sym (ap book_of c.into_parts-held.ensures.held)) (c.requires.usable.sound told)
 
 found_is : (g : Over) (c : goal.After-over g) → c.len-found.result ≡ length c.into_parts-held.result.1.items
-found_is g c = search rules
+found_is g c = omega (arith, c.len-found.ensures, c.into_parts-held.result.1.ok.0)
 
 -- how many volumes are sealed, and of those lines told
 sealed_is : (g : Over) (c : goal.After-over g) → c.lined_volumes-settled.result ≤ length (book_of c.over.result.held).volumes - 1
@@ -79,7 +79,7 @@ returns-clause-made g c =
     parts_of g.D.Disk c.args.told.value c.args.opened c.requires.usable c.requires.numbered c.requires.entries c.over.result.journal (book_of c.over.result.held) c.into_parts-held.result.1.items
     c.in-Ok.tables.0.kept c.into_parts-held.result.3.items (ap (λ (v : Volumes _). v.journal) c.over.ensures.value) book
     c.into_parts-held.ensures.spots (kept_is g c) c.into_parts-held.ensures.entries in
-    let count : c.len-found.result ≡ length c.into_parts-held.result.1.items = search rules in
+    let count : c.len-found.result ≡ length c.into_parts-held.result.1.items = found_is g c in
     record {
       journal_is = ap (λ (v : Volumes _). v.journal) c.over.ensures.value;
       book_is = book;

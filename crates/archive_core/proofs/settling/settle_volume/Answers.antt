@@ -58,3 +58,11 @@ returns-in-Err-clause-went g c = λ tells from n went.
     let book = book_of c.args.volumes.now.held in
     goes_refused g.D.Disk (disk_laws g) tells (shelved_as c.args.told.now.value book c.args.spots.now) from c.args.facts.volume n (disk_of c.args.volumes.now.journal) (disk_of mid.journal)
     c.fault_of.result (c.in-Err.ensures.reads.rests tells) went
+
+pub returns-in-Ok-None-clause-keeps : goal.returns-in-Ok-None-clause-keeps
+returns-in-Ok-None-clause-keeps g c =
+    keeps_reads g.D.Disk (disk_laws g) c.args.told.now.value c.args.volumes.now c.lines_of.new.volumes c.in-Ok-None.ensures.reads c.requires.holds
+
+pub returns-in-Err-clause-keeps : goal.returns-in-Err-clause-keeps
+returns-in-Err-clause-keeps g c =
+    keeps_reads g.D.Disk (disk_laws g) c.args.told.now.value c.args.volumes.now c.lines_of.new.volumes c.in-Err.ensures.reads c.requires.holds

@@ -1,13 +1,15 @@
-use Rattle.std.proofs.Common.{◌≡◌, ◌<◌, ◌+◌, ℕ, List, length, refl, Result, ap, ◌∙◌, arith}
+use Rattle.std.proofs.Common.{◌≡◌, ◌<◌, ◌+◌, ℕ, List, length, refl, sym, subst, Result, ap, ◌∙◌, arith}
 use Rattle.capture.specs.Captures.{captures}
 use Rattle.capture.specs.declared.book.Book.{Book}
 use Rattle.checkpoint.specs.declared.fault.CheckpointFault.{CheckpointFault}
-use Rattle.warc_journal.specs.Journals.{disk_of}
+use Rattle.warc_journal.specs.Journals.{disk_of, texts}
 use Rattle.archive_volumes.proofs.ChangeLaws.{DiskLaws}
 use Rattle.archive_volumes.specs.Held.{book_of}
+use Rattle.archive_volumes.specs.Spots.{AreSpotsOf, ArePlaced, AreWithin}
+use Rattle.archive_volumes.specs.declared.held.Held.{Held}
 use Rattle.archive_volumes.specs.declared.volume_facts.VolumeFacts.{VolumeFacts}
 use Rattle.archive_core.specs.steps.Supplying.{GoesThrough, KnowsMore, shelved_as}
-use Rattle.archive_core.proofs.KeepingLaws.{keeps_itself, keeps_then}
+use Rattle.archive_core.proofs.KeepingLaws.{keeps_itself, keeps_then, measured_kept, texts_kept}
 use Rattle.archive_core.proofs.PieceLaws.{few_volumes}
 use Rattle.archive_core.proofs.SupplyingLaws.{went_none}
 use Rattle.archive_core.proofs.WalkingLaws.{at_exit, found_fact, goes_next, goes_no_further, many_facts, one_at_most}
@@ -21,6 +23,30 @@ disk_laws g = record { earlier = g.met.D.Disk.earlier; now_counts = g.met.D.Disk
 pub facts-requires-clause-volumes : goal.facts-requires-clause-volumes
 facts-requires-clause-volumes g c =
     few_volumes c.args.volumes.now.journal (book_of c.args.volumes.now.held) c.requires.measured (omega (arith, c.requires.spots.count, c.requires.few))
+
+pub settle_volume-requires-clause-holds : goal.settle_volume-requires-clause-holds
+settle_volume-requires-clause-holds g c = c.volumes.invariant.keeps.holds
+
+pub settle_volume-requires-clause-measured : goal.settle_volume-requires-clause-measured
+settle_volume-requires-clause-measured g c =
+    measured_kept g.D.Disk (disk_laws g) c.args.told.now.value c.args.volumes.now c.volumes.volumes c.volumes.invariant.keeps c.requires.measured
+
+pub settle_volume-requires-clause-spots : goal.settle_volume-requires-clause-spots
+settle_volume-requires-clause-spots g c =
+    subst (λ (h : Held). AreSpotsOf (book_of h) c.args.spots.now) (sym c.volumes.invariant.keeps.held) c.requires.spots
+
+pub settle_volume-requires-clause-within : goal.settle_volume-requires-clause-within
+settle_volume-requires-clause-within g c tells =
+    subst (λ (all : List (List ℕ)). AreWithin all c.args.spots.now)
+    (sym (texts_kept g.D.Disk (disk_laws g) c.args.told.now.value c.args.volumes.now c.volumes.volumes c.volumes.invariant.keeps tells)) (c.requires.within tells)
+
+pub settle_volume-requires-clause-placed : goal.settle_volume-requires-clause-placed
+settle_volume-requires-clause-placed g c told =
+    let keeps = c.volumes.invariant.keeps in
+    subst (λ (h : Held). ArePlaced (texts g.D.Disk c.volumes.volumes.journal) (book_of h) c.args.spots.now) (sym keeps.held)
+    (subst (λ (all : List (List ℕ)). ArePlaced all (book_of c.args.volumes.now.held) c.args.spots.now)
+    (sym (texts_kept g.D.Disk (disk_laws g) c.args.told.now.value c.args.volumes.now c.volumes.volumes keeps (c.requires.holds.tells told)))
+    (c.requires.placed told))
 
 pub settle_volume-requires-clause-there : goal.settle_volume-requires-clause-there
 settle_volume-requires-clause-there g c =

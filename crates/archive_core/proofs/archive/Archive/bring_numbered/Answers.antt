@@ -1,4 +1,4 @@
-use Rattle.std.proofs.Common.{rules, ◌≡◌, ◌<◌, ◌≤◌, List, refl, sym, ap, subst, ◌∙◌, arith}
+use Rattle.std.proofs.Common.{◌≡◌, ◌<◌, ◌≤◌, List, refl, sym, ap, subst, ◌∙◌, arith}
 use Rattle.std.specs.Prelude.{length, slice_get}
 use Rattle.capture.specs.Captures.{captures}
 use Rattle.capture.specs.declared.book.Book.{Book}
@@ -15,12 +15,18 @@ use Rattle.archive_core.specs.Holdings.{Holdings, IsArchive}
 use Rattle.archive_core.specs.Looking.{OnlyLooks}
 use Rattle.archive_core.specs.View.{holdings_of}
 use Rattle.archive_core.proofs.ReadLaws as laws
+use Rattle.archive_volumes.proofs.ChangeLaws.{DiskLaws}
+use Rattle.archive_core.proofs.archive.Archive.bring_numbered.Given.{Over}
 use Rattle.archive_core.proofs.archive.Archive.bring_numbered.Goals as goal
+
+-- what is asked of the disk
+disk_laws : (g : Over) → DiskLaws g.D.Disk
+disk_laws g = record { earlier = g.met.D.Disk.earlier; now_counts = g.met.D.Disk.now_counts; now_only = g.met.D.Disk.now_only }
 
 pub returns-then-number-count-clause-brings : goal.returns-then-number-count-clause-brings
 returns-then-number-count-clause-brings g c =
     let is = subst (λ (held : Holdings _). IsArchive g.D.Disk held) c.self.view_is c.self.invariant in
-    let many : c.len-count.result ≡ length c.self.inside.spots.items = search rules in
+    let many : c.len-count.result ≡ length c.self.inside.spots.items = omega (arith, c.len-count.ensures, c.self.inside.spots.ok.0) in
     let count : c.len-count.result ≡ length (captures c.args.self.now.book) =
     many ∙ subst (λ (held : Holdings _). length c.self.inside.spots.items ≡ length (captures held.book)) c.self.view_is c.self.invariant.spots.count in
     let above : length (captures c.args.self.now.book) ≤ c.args.number = omega (arith, count, c.if-number-count.true) in
@@ -50,7 +56,7 @@ invariant_of-self g c =
 
 pub returns-clause-brings : goal.returns-clause-brings
 returns-clause-brings g c =
-    let many : c.len-count.result ≡ length c.self.inside.spots.items = search rules in
+    let many : c.len-count.result ≡ length c.self.inside.spots.items = omega (arith, c.len-count.ensures, c.self.inside.spots.ok.0) in
     let same = laws.same_book g.D.Disk (holdings_of c.self.inside) c.self.inside.volumes c.bring.new.self refl refl c.bring.ensures.reads in
     laws.brings_by g.D.Disk (record (holdings_of c.self.inside) { journal = c.bring.new.self.journal; book = book_of c.bring.new.self.held })
     c.args.number c.bring.result
@@ -83,3 +89,6 @@ pub returns-clause-there : goal.returns-clause-there
 returns-clause-there g c =
     subst (λ (held : Holdings _). BringsAsThere g.D.Disk held c.args.number c.bring.result) c.self.view_is
     (λ tells spot at. c.bring.ensures.there tells spot (ap (λ (l : List Spot). slice_get l c.args.number) c.as_slice.ensures.value ∙ at))
+
+pub returns-then-number-count-clause-looks : goal.returns-then-number-count-clause-looks
+returns-then-number-count-clause-looks g c = laws.looks_itself g.D.Disk (disk_laws g) c.args.self.now

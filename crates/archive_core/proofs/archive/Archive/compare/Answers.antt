@@ -7,7 +7,14 @@ use Rattle.archive_core.specs.Holdings.{contents_of}
 use Rattle.archive_core.proofs.ArchiveLaws.{on_each_ok}
 use Rattle.archive_core.proofs.CompareLaws.{full_compares, full_steady, looks_after, on_no_ok}
 use Rattle.archive_core.proofs.FaultLaws.{full_since}
+use Rattle.archive_volumes.proofs.ChangeLaws.{DiskLaws}
+use Rattle.archive_core.proofs.archive.Archive.compare.Given.{Over}
+use Rattle.archive_core.proofs.ReadLaws.{looks_itself}
 use Rattle.archive_core.proofs.archive.Archive.compare.Goals as goal
+
+-- what is asked of the disk
+disk_laws : (g : Over) → DiskLaws g.D.Disk
+disk_laws g = record { earlier = g.met.D.Disk.earlier; now_counts = g.met.D.Disk.now_counts; now_only = g.met.D.Disk.now_only }
 
 pub returns-in_err-check_room-clause-looks : goal.returns-in_err-check_room-clause-looks
 returns-in_err-check_room-clause-looks g c =
@@ -45,3 +52,6 @@ look_on-requires-clause-right g c payload is =
 
 pub returns-clause-there : goal.returns-clause-there
 returns-clause-there g c none = c.look_on.ensures.there c.args.payload.now refl none
+
+pub returns-in_err-check_room-clause-only_looks : goal.returns-in_err-check_room-clause-only_looks
+returns-in_err-check_room-clause-only_looks g c = looks_itself g.D.Disk (disk_laws g) c.args.self.now

@@ -3,7 +3,14 @@ use Rattle.archive_core.specs.Holdings.{contents_of}
 use Rattle.archive_core.proofs.MatchLaws.{its_decoded, its_payload, looks_for, refers_cut, wire_whole}
 use Rattle.archive_core.proofs.PayloadLaws.{has_one}
 use Rattle.archive_core.proofs.ThereLaws.{refers_there}
+use Rattle.archive_volumes.proofs.ChangeLaws.{DiskLaws}
+use Rattle.archive_core.proofs.archive.Archive.same_by.Given.{Over}
+use Rattle.archive_core.proofs.ReadLaws.{looks_itself}
 use Rattle.archive_core.proofs.archive.Archive.same_by.Goals as goal
+
+-- what is asked of the disk
+disk_laws : (g : Over) → DiskLaws g.D.Disk
+disk_laws g = record { earlier = g.met.D.Disk.earlier; now_counts = g.met.D.Disk.now_counts; now_only = g.met.D.Disk.now_only }
 
 pub returns-then-taken-clause-refers : goal.returns-then-taken-clause-refers
 returns-then-taken-clause-refers g c =
@@ -34,3 +41,6 @@ returns-clause-there g c none =
     refers_there g.D.Disk c.args.self.now c.args.taken.now c.same_with.result
     (λ payload has. c.same_with.ensures.there payload
     (its_decoded c.args.taken.now c.args.framing c.requires.framed c.if-taken.false c.as_slice.result.now c.as_slice.ensures payload has) none)
+
+pub returns-then-taken-clause-looks : goal.returns-then-taken-clause-looks
+returns-then-taken-clause-looks g c = looks_itself g.D.Disk (disk_laws g) c.args.self.now

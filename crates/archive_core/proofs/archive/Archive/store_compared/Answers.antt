@@ -1,4 +1,4 @@
-use Rattle.std.proofs.Common.{rules, ◌≡◌, ◌+◌, ℕ, List, length, Some, Ok, Err, refl, sym, ap, subst, ◌∙◌, arith, ◌++◌, [], ◌∷◌}
+use Rattle.std.proofs.Common.{◌≡◌, ◌+◌, ℕ, List, length, Some, Ok, Err, refl, sym, ap, subst, ◌∙◌, arith, ◌++◌, [], ◌∷◌}
 use Rattle.std.specs.Prelude.{◌<◌, is_some}
 use Rattle.capture.specs.Captures.{captures}
 use Rattle.capture.specs.Message.{IsResponseHeadText}
@@ -34,7 +34,7 @@ disk_laws g = record { earlier = g.met.D.Disk.earlier; now_counts = g.met.D.Disk
 pub make_ready-requires-clause-spots : goal.make_ready-requires-clause-spots
 make_ready-requires-clause-spots g c =
     let was : Holdings _ = holdings_of c.self.inside in
-    let given : c.as_slice.result.now ≡ c.self.inside.spots.items = search rules in
+    let given : c.as_slice.result.now ≡ c.self.inside.spots.items = c.as_slice.ensures.value ∙ c.reserve_kept.ensures.spots in
     subst (λ (l : List Spot). AreSpotsOf was.book l) (sym given) c.self.invariant.spots
 
 pub make_ready-requires-clause-few : goal.make_ready-requires-clause-few
@@ -42,7 +42,7 @@ make_ready-requires-clause-few g c =
     let was : Holdings _ = holdings_of c.self.inside in
     let not_full : length (captures was.book) < was.limits.captures =
     subst (λ (held : Holdings _). length (captures held.book) < held.limits.captures) (sym c.self.view_is) c.requires.not_full in
-    let given : c.as_slice.result.now ≡ c.self.inside.spots.items = search rules in
+    let given : c.as_slice.result.now ≡ c.self.inside.spots.items = c.as_slice.ensures.value ∙ c.reserve_kept.ensures.spots in
     omega (arith, ap (λ (l : List Spot). length l) given, c.self.invariant.spots.count, not_full, c.self.invariant.counted.limits.captures)
 
 pub make_ready-requires-clause-refers : goal.make_ready-requires-clause-refers
@@ -60,70 +60,48 @@ make_ready-requires-clause-payload g c =
     let there = has_one c.storing_has_a_basis.ensures.whole c.storing_has_a_basis.ensures.cut c.args.taken.now c.requires.fits in
     (there.payload, c.requires.digest there.payload there.has)
 
-pub record_at-at-requires-clause-measured : goal.record_at-at-requires-clause-measured
-record_at-at-requires-clause-measured g c =
-    let was : Holdings _ = holdings_of c.self.inside in
-    let now = c.make_ready.new.self in
-    let ready = c.in_ok-ready.ready in
-    let u = laws.under_way g.D.Disk c.storing_has_a_basis.ensures c.args.self.now was c.self.inside.volumes now (incoming_of c.args.taken.now c.args.digest.now c.args.same) ready c.self.view_is
+-- all that is known of the capture once it is ready
+readied : (g : Over) (c : goal.After-ready-2-1 g)
+    → laws.IsUnderWay g.D.Disk (holdings_of c.self.inside) c.make_ready.new.self (incoming_of c.args.taken.now c.args.digest.now c.args.same) c.in_ok-ready.ready
+readied g c =
+    laws.under_way g.D.Disk c.storing_has_a_basis.ensures c.args.self.now (holdings_of c.self.inside) c.self.inside.volumes c.make_ready.new.self
+    (incoming_of c.args.taken.now c.args.digest.now c.args.same) c.in_ok-ready.ready c.self.view_is
     refl refl c.self.invariant c.requires.fits c.requires.not_full c.requires.digest c.requires.refers c.make_ready.ensures.journal
-    c.make_ready.ensures.book c.in_ok-ready.ensures.ready in
-    u.is.measured
+    c.make_ready.ensures.book c.in_ok-ready.ensures.ready
+
+pub record_at-at-requires-clause-measured : goal.record_at-at-requires-clause-measured
+record_at-at-requires-clause-measured g c = (readied g c).is.measured
 
 pub record_at-at-requires-clause-room : goal.record_at-at-requires-clause-room
-record_at-at-requires-clause-room g c =
-    let was : Holdings _ = holdings_of c.self.inside in
-    let now = c.make_ready.new.self in
-    let ready = c.in_ok-ready.ready in
-    let u = laws.under_way g.D.Disk c.storing_has_a_basis.ensures c.args.self.now was c.self.inside.volumes now (incoming_of c.args.taken.now c.args.digest.now c.args.same) ready c.self.view_is
+record_at-at-requires-clause-room g c = (readied g c).ready_is.room
+
+-- and once it is known where its record is to stand
+placed : (g : Over) (c : goal.After-as_slice-2 g)
+    → laws.IsUnderWay g.D.Disk (holdings_of c.self.inside) c.make_ready.new.self (incoming_of c.args.taken.now c.args.digest.now c.args.same) c.in_ok-ready.ready
+placed g c =
+    laws.under_way g.D.Disk c.storing_has_a_basis.ensures c.args.self.now (holdings_of c.self.inside) c.self.inside.volumes c.make_ready.new.self
+    (incoming_of c.args.taken.now c.args.digest.now c.args.same) c.in_ok-ready.ready c.self.view_is
     refl refl c.self.invariant c.requires.fits c.requires.not_full c.requires.digest c.requires.refers c.make_ready.ensures.journal
-    c.make_ready.ensures.book c.in_ok-ready.ensures.ready in
-    u.ready_is.room
+    c.make_ready.ensures.book c.in_ok-ready.ensures.ready
 
 pub enter_ready-requires-clause-date : goal.enter_ready-requires-clause-date
-enter_ready-requires-clause-date g c =
-    let was : Holdings _ = holdings_of c.self.inside in
-    let now = c.make_ready.new.self in
-    let ready = c.in_ok-ready.ready in
-    let u = laws.under_way g.D.Disk c.storing_has_a_basis.ensures c.args.self.now was c.self.inside.volumes now (incoming_of c.args.taken.now c.args.digest.now c.args.same) ready c.self.view_is
-    refl refl c.self.invariant c.requires.fits c.requires.not_full c.requires.digest c.requires.refers c.make_ready.ensures.journal
-    c.make_ready.ensures.book c.in_ok-ready.ensures.ready in
-    subst (λ (s : Stored). InRange s.date) (sym u.ready_is.stored) c.requires.fits.date
+enter_ready-requires-clause-date g c = subst (λ (s : Stored). InRange s.date) (sym (placed g c).ready_is.stored) c.requires.fits.date
 
 pub enter_ready-requires-clause-head : goal.enter_ready-requires-clause-head
 enter_ready-requires-clause-head g c =
-    let was : Holdings _ = holdings_of c.self.inside in
-    let now = c.make_ready.new.self in
-    let ready = c.in_ok-ready.ready in
-    let u = laws.under_way g.D.Disk c.storing_has_a_basis.ensures c.args.self.now was c.self.inside.volumes now (incoming_of c.args.taken.now c.args.digest.now c.args.same) ready c.self.view_is
-    refl refl c.self.invariant c.requires.fits c.requires.not_full c.requires.digest c.requires.refers c.make_ready.ensures.journal
-    c.make_ready.ensures.book c.in_ok-ready.ensures.ready in
-    let is : c.as_slice-2.result.now ≡ (stored_in ready.stored).head =
+    let u = placed g c in
+    let is : c.as_slice-2.result.now ≡ (stored_in c.in_ok-ready.ready.stored).head =
     c.as_slice-2.ensures ∙ sym (ap (λ (s : Stored). s.head) u.ready_is.stored) in (
       u.has.parsed,
       subst (λ (h : List ℕ). IsResponseHeadText h u.has.parsed) (sym is)
-          (laws.ready_head g.D.Disk c.storing_has_a_basis.ensures was now (incoming_of c.args.taken.now c.args.digest.now c.args.same) ready u),
+          (laws.ready_head g.D.Disk c.storing_has_a_basis.ensures (holdings_of c.self.inside) c.make_ready.new.self (incoming_of c.args.taken.now c.args.digest.now c.args.same) c.in_ok-ready.ready u),
     )
 
 pub enter_ready-requires-clause-kept : goal.enter_ready-requires-clause-kept
-enter_ready-requires-clause-kept g c =
-    let was : Holdings _ = holdings_of c.self.inside in
-    let now = c.make_ready.new.self in
-    let ready = c.in_ok-ready.ready in
-    let u = laws.under_way g.D.Disk c.storing_has_a_basis.ensures c.args.self.now was c.self.inside.volumes now (incoming_of c.args.taken.now c.args.digest.now c.args.same) ready c.self.view_is
-    refl refl c.self.invariant c.requires.fits c.requires.not_full c.requires.digest c.requires.refers c.make_ready.ensures.journal
-    c.make_ready.ensures.book c.in_ok-ready.ensures.ready in
-    u.ready_is.kept
+enter_ready-requires-clause-kept g c = (placed g c).ready_is.kept
 
 pub enter_ready-requires-clause-is : goal.enter_ready-requires-clause-is
-enter_ready-requires-clause-is g c =
-    let was : Holdings _ = holdings_of c.self.inside in
-    let now = c.make_ready.new.self in
-    let ready = c.in_ok-ready.ready in
-    let u = laws.under_way g.D.Disk c.storing_has_a_basis.ensures c.args.self.now was c.self.inside.volumes now (incoming_of c.args.taken.now c.args.digest.now c.args.same) ready c.self.view_is
-    refl refl c.self.invariant c.requires.fits c.requires.not_full c.requires.digest c.requires.refers c.make_ready.ensures.journal
-    c.make_ready.ensures.book c.in_ok-ready.ensures.ready in
-    c.as_slice-2.ensures ∙ sym (ap (λ (s : Stored). s.head) u.ready_is.stored)
+enter_ready-requires-clause-is g c = c.as_slice-2.ensures ∙ sym (ap (λ (s : Stored). s.head) (placed g c).ready_is.stored)
 
 pub enter_ready-requires-clause-indexed : goal.enter_ready-requires-clause-indexed
 enter_ready-requires-clause-indexed g c = c.self.invariant.indexed
@@ -131,72 +109,43 @@ enter_ready-requires-clause-indexed g c = c.self.invariant.indexed
 pub enter_ready-requires-clause-behind : goal.enter_ready-requires-clause-behind
 enter_ready-requires-clause-behind g c =
     let was : Holdings _ = holdings_of c.self.inside in
-    let many : c.len-number.result ≡ length c.self.inside.spots.items = search rules in
+    let many : c.len-number.result ≡ length c.self.inside.spots.items = omega (arith, c.len-number.ensures, c.self.inside.spots.ok.0) in
     before_at c.make_ready.new.self c.in_ok-ready.ready c.record_at-at.result c.len-number.result (length (captures was.book)) c.record_at-at.ensures
     (many ∙ c.self.invariant.spots.count) was.index c.self.invariant.counted.below
 
+-- and once its entry is in the index
+entering : (g : Over) (c : goal.After-commit-arg-4-1 g)
+    → laws.IsUnderWay g.D.Disk (holdings_of c.self.inside) c.make_ready.new.self (incoming_of c.args.taken.now c.args.digest.now c.args.same) c.in_ok-entered.entered
+entering g c =
+    laws.under_way g.D.Disk c.storing_has_a_basis.ensures c.args.self.now (holdings_of c.self.inside) c.self.inside.volumes c.make_ready.new.self
+    (incoming_of c.args.taken.now c.args.digest.now c.args.same) c.in_ok-entered.entered c.self.view_is
+    refl refl c.self.invariant c.requires.fits c.requires.not_full c.requires.digest c.requires.refers c.make_ready.ensures.journal
+    c.make_ready.ensures.book (laws.handed_back c.self.inside.volumes c.make_ready.new.self c.self.inside.limits.volume_bytes
+    (incoming_of c.args.taken.now c.args.digest.now c.args.same) c.in_ok-ready.ready c.in_ok-entered.entered c.in_ok-entered.ensures.same
+    c.in_ok-ready.ensures.ready)
+
 pub commit-requires-clause-ready : goal.commit-requires-clause-ready
 commit-requires-clause-ready g c =
-    let was : Holdings _ = holdings_of c.self.inside in
-    let now = c.make_ready.new.self in
-    let ready = c.in_ok-entered.entered in
-    let u = laws.under_way g.D.Disk c.storing_has_a_basis.ensures c.args.self.now was c.self.inside.volumes now (incoming_of c.args.taken.now c.args.digest.now c.args.same) ready c.self.view_is
-    refl refl c.self.invariant c.requires.fits c.requires.not_full c.requires.digest c.requires.refers c.make_ready.ensures.journal
-    c.make_ready.ensures.book (laws.handed_back c.self.inside.volumes now was.limits.volume_bytes (incoming_of c.args.taken.now c.args.digest.now c.args.same) c.in_ok-ready.ready ready c.in_ok-entered.ensures.same
-    c.in_ok-ready.ensures.ready) in
-    laws.commit_ready g.D.Disk c.storing_has_a_basis.ensures was now (incoming_of c.args.taken.now c.args.digest.now c.args.same) ready u
+    laws.commit_ready g.D.Disk c.storing_has_a_basis.ensures (holdings_of c.self.inside) c.make_ready.new.self (incoming_of c.args.taken.now c.args.digest.now c.args.same) c.in_ok-entered.entered (entering g c)
 
 pub commit-requires-clause-holds : goal.commit-requires-clause-holds
-commit-requires-clause-holds g c =
-    let was : Holdings _ = holdings_of c.self.inside in
-    let now = c.make_ready.new.self in
-    let ready = c.in_ok-ready.ready in
-    let u = laws.under_way g.D.Disk c.storing_has_a_basis.ensures c.args.self.now was c.self.inside.volumes now (incoming_of c.args.taken.now c.args.digest.now c.args.same) ready c.self.view_is
-    refl refl c.self.invariant c.requires.fits c.requires.not_full c.requires.digest c.requires.refers c.make_ready.ensures.journal
-    c.make_ready.ensures.book c.in_ok-ready.ensures.ready in
-    u.is.holds
+commit-requires-clause-holds g c = (entering g c).is.holds
 
 pub commit-requires-clause-measured : goal.commit-requires-clause-measured
-commit-requires-clause-measured g c =
-    let was : Holdings _ = holdings_of c.self.inside in
-    let now = c.make_ready.new.self in
-    let ready = c.in_ok-ready.ready in
-    let u = laws.under_way g.D.Disk c.storing_has_a_basis.ensures c.args.self.now was c.self.inside.volumes now (incoming_of c.args.taken.now c.args.digest.now c.args.same) ready c.self.view_is
-    refl refl c.self.invariant c.requires.fits c.requires.not_full c.requires.digest c.requires.refers c.make_ready.ensures.journal
-    c.make_ready.ensures.book c.in_ok-ready.ensures.ready in
-    u.is.measured
+commit-requires-clause-measured g c = (entering g c).is.measured
 
 pub commit-requires-clause-spots : goal.commit-requires-clause-spots
 commit-requires-clause-spots g c =
-    let was : Holdings _ = holdings_of c.self.inside in
-    let now = c.make_ready.new.self in
-    let ready = c.in_ok-ready.ready in
-    let u = laws.under_way g.D.Disk c.storing_has_a_basis.ensures c.args.self.now was c.self.inside.volumes now (incoming_of c.args.taken.now c.args.digest.now c.args.same) ready c.self.view_is
-    refl refl c.self.invariant c.requires.fits c.requires.not_full c.requires.digest c.requires.refers c.make_ready.ensures.journal
-    c.make_ready.ensures.book c.in_ok-ready.ensures.ready in
-    subst (λ (l : List Spot). AreSpotsOf (book_of now.held) l) (sym c.reserve_kept.ensures.spots) u.is.spots
+    subst (λ (l : List Spot). AreSpotsOf (book_of c.make_ready.new.self.held) l) (sym c.reserve_kept.ensures.spots) (entering g c).is.spots
 
 pub commit-requires-clause-within : goal.commit-requires-clause-within
 commit-requires-clause-within g c told =
-    let was : Holdings _ = holdings_of c.self.inside in
-    let now = c.make_ready.new.self in
-    let ready = c.in_ok-ready.ready in
-    let u = laws.under_way g.D.Disk c.storing_has_a_basis.ensures c.args.self.now was c.self.inside.volumes now (incoming_of c.args.taken.now c.args.digest.now c.args.same) ready c.self.view_is
-    refl refl c.self.invariant c.requires.fits c.requires.not_full c.requires.digest c.requires.refers c.make_ready.ensures.journal
-    c.make_ready.ensures.book c.in_ok-ready.ensures.ready in
-    subst (AreWithin (texts g.D.Disk now.journal)) (sym c.reserve_kept.ensures.spots)
-    (u.is.within told)
+    subst (AreWithin (texts g.D.Disk c.make_ready.new.self.journal)) (sym c.reserve_kept.ensures.spots) ((entering g c).is.within told)
 
 pub commit-requires-clause-placed : goal.commit-requires-clause-placed
 commit-requires-clause-placed g c told =
-    let was : Holdings _ = holdings_of c.self.inside in
     let now = c.make_ready.new.self in
-    let ready = c.in_ok-ready.ready in
-    let u = laws.under_way g.D.Disk c.storing_has_a_basis.ensures c.args.self.now was c.self.inside.volumes now (incoming_of c.args.taken.now c.args.digest.now c.args.same) ready c.self.view_is
-    refl refl c.self.invariant c.requires.fits c.requires.not_full c.requires.digest c.requires.refers c.make_ready.ensures.journal
-    c.make_ready.ensures.book c.in_ok-ready.ensures.ready in
-    subst (λ (l : List Spot). ArePlaced (texts g.D.Disk now.journal) (book_of now.held) l) (sym c.reserve_kept.ensures.spots)
-    (u.is.placed told)
+    subst (λ (l : List Spot). ArePlaced (texts g.D.Disk now.journal) (book_of now.held) l) (sym c.reserve_kept.ensures.spots) ((entering g c).is.placed told)
 
 pub commit-requires-clause-table : goal.commit-requires-clause-table
 commit-requires-clause-table g c =
@@ -207,14 +156,7 @@ commit-requires-clause-space g c = c.in_ok-reserve_kept.ensures.room
 
 pub commit-requires-clause-reserved : goal.commit-requires-clause-reserved
 commit-requires-clause-reserved g c =
-    let was : Holdings _ = holdings_of c.self.inside in
-    let now = c.make_ready.new.self in
-    let ready = c.in_ok-entered.entered in
-    let u = laws.under_way g.D.Disk c.storing_has_a_basis.ensures c.args.self.now was c.self.inside.volumes now (incoming_of c.args.taken.now c.args.digest.now c.args.same) ready c.self.view_is
-    refl refl c.self.invariant c.requires.fits c.requires.not_full c.requires.digest c.requires.refers c.make_ready.ensures.journal
-    c.make_ready.ensures.book (laws.handed_back c.self.inside.volumes now was.limits.volume_bytes (incoming_of c.args.taken.now c.args.digest.now c.args.same) c.in_ok-ready.ready ready c.in_ok-entered.ensures.same
-    c.in_ok-ready.ensures.ready) in
-    c.in_ok-reserve_kept.ensures.reserved ∙ ap (λ (digest : List ℕ). Some digest) (sym u.ready_is.digest)
+    c.in_ok-reserve_kept.ensures.reserved ∙ ap (λ (digest : List ℕ). Some digest) (sym (entering g c).ready_is.digest)
 
 pub commit-requires-clause-few : goal.commit-requires-clause-few
 commit-requires-clause-few g c =
@@ -270,7 +212,7 @@ invariant_of-self-in-Err g c =
     c.in_ok-ready.ensures.ready) in
     let has = c.in_ok-entered.ensures.entered in
     let at_is = laws.record_back now c.in_ok-ready.ready ready c.record_at-at.result c.len-number.result c.in_ok-entered.ensures.same c.record_at-at.ensures in
-    let many : c.len-number.result ≡ length c.self.inside.spots.items = search rules in
+    let many : c.len-number.result ≡ length c.self.inside.spots.items = omega (arith, c.len-number.ensures, c.self.inside.spots.ok.0) in
     let count : c.len-number.result ≡ length (captures was.book) = many ∙ c.self.invariant.spots.count in
     let number : c.len-number.result ≡ length (captures (book_of now.held)) =
     count ∙ sym (ap (λ (b : Book). length (captures b)) c.make_ready.ensures.book) in
@@ -296,7 +238,7 @@ returns-in-Err-clause-stores g c =
     c.in_ok-ready.ensures.ready) in
     let has = c.in_ok-entered.ensures.entered in
     let at_is = laws.record_back now c.in_ok-ready.ready ready c.record_at-at.result c.len-number.result c.in_ok-entered.ensures.same c.record_at-at.ensures in
-    let many : c.len-number.result ≡ length c.self.inside.spots.items = search rules in
+    let many : c.len-number.result ≡ length c.self.inside.spots.items = omega (arith, c.len-number.ensures, c.self.inside.spots.ok.0) in
     let count : c.len-number.result ≡ length (captures was.book) = many ∙ c.self.invariant.spots.count in
     let number : c.len-number.result ≡ length (captures (book_of now.held)) =
     count ∙ sym (ap (λ (b : Book). length (captures b)) c.make_ready.ensures.book) in
@@ -342,7 +284,7 @@ invariant_of-self-in-Ok g c =
     c.in_ok-ready.ensures.ready) in
     let has = c.in_ok-entered.ensures.entered in
     let at_is = laws.record_back now c.in_ok-ready.ready ready c.record_at-at.result c.len-number.result c.in_ok-entered.ensures.same c.record_at-at.ensures in
-    let many : c.len-number.result ≡ length c.self.inside.spots.items = search rules in
+    let many : c.len-number.result ≡ length c.self.inside.spots.items = omega (arith, c.len-number.ensures, c.self.inside.spots.ok.0) in
     let count : c.len-number.result ≡ length (captures was.book) = many ∙ c.self.invariant.spots.count in
     let number : c.len-number.result ≡ length (captures (book_of now.held)) =
     count ∙ sym (ap (λ (b : Book). length (captures b)) c.make_ready.ensures.book) in
@@ -368,7 +310,7 @@ returns-in-Ok-clause-stores g c =
     c.in_ok-ready.ensures.ready) in
     let has = c.in_ok-entered.ensures.entered in
     let at_is = laws.record_back now c.in_ok-ready.ready ready c.record_at-at.result c.len-number.result c.in_ok-entered.ensures.same c.record_at-at.ensures in
-    let many : c.len-number.result ≡ length c.self.inside.spots.items = search rules in
+    let many : c.len-number.result ≡ length c.self.inside.spots.items = omega (arith, c.len-number.ensures, c.self.inside.spots.ok.0) in
     let count : c.len-number.result ≡ length (captures was.book) = many ∙ c.self.invariant.spots.count in
     let number : c.len-number.result ≡ length (captures (book_of now.held)) =
     count ∙ sym (ap (λ (b : Book). length (captures b)) c.make_ready.ensures.book) in
