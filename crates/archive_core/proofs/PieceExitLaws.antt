@@ -205,6 +205,11 @@ pub handed_back : (text : List ℕ) (group : Group) (first : Option ℕ) (ready 
     → IsReadyGroup text group first back
 handed_back text group first ready back same is = subst (λ (r : Ready). IsReadyGroup text group first r) (sym same) is
 
+-- and what is ready of the group that was handed back is so of the one that was handed over
+pub of_group : (text : List ℕ) (group back : Group) (first : Option ℕ) (ready : Ready) → back ≡ group → IsReadyGroup text back first ready
+    → IsReadyGroup text group first ready
+of_group text group back first ready same is = subst (λ (x : Group). IsReadyGroup text x first ready) same is
+
 pub room_back : {D : Type 0} (old now : Volumes D) (begins : Option ℕ) (ready back : Ready) → back ≡ ready → MakesRoom old now begins ready.prepared
     → MakesRoom old now begins back.prepared
 room_back old now begins ready back same is = subst (λ (r : Ready). MakesRoom old now begins r.prepared) (sym same) is

@@ -1,5 +1,6 @@
 //! How an archive takes the piece of another one's capture.
-ghost use Rattle.std.specs.Prelude.{◌<◌, ◌≡◌, length};
+ghost use Rattle.std.specs.Prelude.{◌<◌, ◌≡◌, IfOk, OnOk, Some, length, vec_len};
+ghost use Rattle.std.specs.Vec.{vec_capacity};
 ghost use Rattle.capture.specs.Captures.{captures};
 ghost use Rattle.warc_journal.specs.Journals.{disk_of, last_len};
 ghost use Rattle.warc_scan.specs.Groups.{IsGroup};
@@ -21,8 +22,10 @@ use archive_pieces::{
     Found, PieceFault, end_of, make_piece_ready, original_of, passes_bounds, read_piece,
 };
 use archive_shelf::StoreFault;
-use archive_volumes::reserve_kept;
+use archive_volumes::{Spot, reserve_kept};
+use capture::Memory;
 use disk_model::Disk;
+use revisit_table::Digests;
 use std::alloc::Global;
 use warc_scan::Group;
 
@@ -54,6 +57,23 @@ fn head_in<'t>(text: &'t [u8], group: &Group) -> &'t [u8]
     let (_, behind) = text.split_at(group.head_at as usize);
     let (head, _) = behind.split_at(group.stored.head.as_slice().len());
     head
+}
+
+/// Makes room for the capture of a group, and gives the group back.
+fn with_room(
+    alloc: Global,
+    spots: &mut Vec<Spot>,
+    table: &mut Digests,
+    group: Group,
+) -> Result<Group, Memory>
+    ensures same { IfOk result (λ back. back ≡ group) }
+    ensures room { OnOk result (vec_len spots.new < vec_capacity spots.new) }
+    ensures reserved { OnOk result (table.new.reserved ≡ Some group.digest) }
+    ensures spots { spots.new.items ≡ spots.old.items }
+    ensures table { table.new.kept ≡ table.old.kept }
+{
+    reserve_kept(alloc, spots, table, &group.digest)?;
+    Ok(group)
 }
 
 impl<D: Disk> Archive<D> {
@@ -138,9 +158,9 @@ impl<D: Disk> Archive<D> {
         storing_has_a_basis();
         reading_laws();
         let number = self.spots.len() as u32;
-        reserve_kept(alloc, &mut self.spots, &mut self.table, &group.digest)?;
         let head = head_in(text, &group);
-        let ready = make_piece_ready(alloc, &mut self.volumes, text, begins, group, first)?;
+        let roomed = with_room(alloc, &mut self.spots, &mut self.table, group)?;
+        let ready = make_piece_ready(alloc, &mut self.volumes, text, begins, roomed, first)?;
         let at = self.volumes.record_at(&ready, number);
         let entered = enter_ready(alloc, &mut self.index, ready, head, at)?;
         match self

@@ -6,6 +6,7 @@ use Rattle.warc_journal.specs.Journals.{disk_of, texts}
 use Rattle.warc_text.specs.Books.{AreVolumeTexts}
 use Rattle.warc_text.specs.Sound.{IsSound}
 use Rattle.archive_volumes.specs.Held.{book_of}
+use Rattle.archive_volumes.specs.Volumes.{IsMeasured}
 use Rattle.archive_volumes.specs.declared.volumes.Volumes.{Volumes}
 use Rattle.disk_model.specs.Crash.{Leaves}
 use Rattle.archive_core.specs.Finished.{AreLinedTo, FirstAreFinished}
@@ -28,6 +29,16 @@ parts g c =
 
 pub over-requires-clause-tells : goal.over-requires-clause-tells
 over-requires-clause-tells g c = c.requires.usable.tells
+
+pub over-requires-clause-in_step : goal.over-requires-clause-in_step
+over-requires-clause-in_step g c tells = c.requires.usable.in_step tells
+
+pub over-requires-clause-left : goal.over-requires-clause-left
+over-requires-clause-left g c tells = c.requires.usable.left tells
+
+pub over-requires-clause-measured : goal.over-requires-clause-measured
+over-requires-clause-measured g c =
+    subst (IsMeasured c.args.opened.journal) (sym (ap book_of c.into_parts-held.ensures.held)) c.requires.usable.measured
 
 pub over-requires-clause-texts_are : goal.over-requires-clause-texts_are
 over-requires-clause-texts_are g c told =

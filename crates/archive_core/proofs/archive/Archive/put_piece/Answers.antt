@@ -43,7 +43,7 @@ record_at-at-requires-clause-measured g c =
     let begins = c.args.begins in
     let t = laws.taking g.D.Disk c.args.self.now was c.self.inside.volumes now text group first begins ready c.self.view_is refl refl c.self.invariant
     c.requires.not_full c.requires.group c.requires.refers c.requires.holds c.requires.bounds c.make_piece_ready.ensures.journal
-    c.make_piece_ready.ensures.book c.in_ok-ready.ensures.ready c.in_ok-ready.ensures.room in
+    c.make_piece_ready.ensures.book (laws.of_group c.args.text.now c.args.group c.in_ok-roomed.roomed c.args.first c.in_ok-ready.ready c.in_ok-roomed.ensures.same c.in_ok-ready.ensures.ready) c.in_ok-ready.ensures.room in
     t.is.measured
 
 pub record_at-at-requires-clause-room : goal.record_at-at-requires-clause-room
@@ -57,7 +57,7 @@ record_at-at-requires-clause-room g c =
     let begins = c.args.begins in
     let t = laws.taking g.D.Disk c.args.self.now was c.self.inside.volumes now text group first begins ready c.self.view_is refl refl c.self.invariant
     c.requires.not_full c.requires.group c.requires.refers c.requires.holds c.requires.bounds c.make_piece_ready.ensures.journal
-    c.make_piece_ready.ensures.book c.in_ok-ready.ensures.ready c.in_ok-ready.ensures.room in
+    c.make_piece_ready.ensures.book (laws.of_group c.args.text.now c.args.group c.in_ok-roomed.roomed c.args.first c.in_ok-ready.ready c.in_ok-roomed.ensures.same c.in_ok-ready.ensures.ready) c.in_ok-ready.ensures.room in
     t.room_is.room
 
 pub enter_ready-requires-clause-date : goal.enter_ready-requires-clause-date
@@ -71,7 +71,7 @@ enter_ready-requires-clause-date g c =
     let begins = c.args.begins in
     let t = laws.taking g.D.Disk c.args.self.now was c.self.inside.volumes now text group first begins ready c.self.view_is refl refl c.self.invariant
     c.requires.not_full c.requires.group c.requires.refers c.requires.holds c.requires.bounds c.make_piece_ready.ensures.journal
-    c.make_piece_ready.ensures.book c.in_ok-ready.ensures.ready c.in_ok-ready.ensures.room in
+    c.make_piece_ready.ensures.book (laws.of_group c.args.text.now c.args.group c.in_ok-roomed.roomed c.args.first c.in_ok-ready.ready c.in_ok-roomed.ensures.same c.in_ok-ready.ensures.ready) c.in_ok-ready.ensures.room in
     subst (λ (s : Stored). InRange s.date) (sym t.ready_is.stored) (subst InRange (sym (laws.date_same group.stored first)) t.of.date)
 
 pub enter_ready-requires-clause-kept : goal.enter_ready-requires-clause-kept
@@ -85,7 +85,7 @@ enter_ready-requires-clause-kept g c =
     let begins = c.args.begins in
     let t = laws.taking g.D.Disk c.args.self.now was c.self.inside.volumes now text group first begins ready c.self.view_is refl refl c.self.invariant
     c.requires.not_full c.requires.group c.requires.refers c.requires.holds c.requires.bounds c.make_piece_ready.ensures.journal
-    c.make_piece_ready.ensures.book c.in_ok-ready.ensures.ready c.in_ok-ready.ensures.room in
+    c.make_piece_ready.ensures.book (laws.of_group c.args.text.now c.args.group c.in_ok-roomed.roomed c.args.first c.in_ok-ready.ready c.in_ok-roomed.ensures.same c.in_ok-ready.ensures.ready) c.in_ok-ready.ensures.room in
     t.ready_is.kept
 
 pub enter_ready-requires-clause-is : goal.enter_ready-requires-clause-is
@@ -99,7 +99,7 @@ enter_ready-requires-clause-is g c =
     let begins = c.args.begins in
     let t = laws.taking g.D.Disk c.args.self.now was c.self.inside.volumes now text group first begins ready c.self.view_is refl refl c.self.invariant
     c.requires.not_full c.requires.group c.requires.refers c.requires.holds c.requires.bounds c.make_piece_ready.ensures.journal
-    c.make_piece_ready.ensures.book c.in_ok-ready.ensures.ready c.in_ok-ready.ensures.room in
+    c.make_piece_ready.ensures.book (laws.of_group c.args.text.now c.args.group c.in_ok-roomed.roomed c.args.first c.in_ok-ready.ready c.in_ok-roomed.ensures.same c.in_ok-ready.ensures.ready) c.in_ok-ready.ensures.room in
     c.head_in-head.ensures ∙ sym (laws.head_same group.stored first) ∙ sym (ap (λ (s : Stored). s.head) t.ready_is.stored)
 
 pub enter_ready-requires-clause-head : goal.enter_ready-requires-clause-head
@@ -113,7 +113,7 @@ enter_ready-requires-clause-head g c =
     let begins = c.args.begins in
     let t = laws.taking g.D.Disk c.args.self.now was c.self.inside.volumes now text group first begins ready c.self.view_is refl refl c.self.invariant
     c.requires.not_full c.requires.group c.requires.refers c.requires.holds c.requires.bounds c.make_piece_ready.ensures.journal
-    c.make_piece_ready.ensures.book c.in_ok-ready.ensures.ready c.in_ok-ready.ensures.room in
+    c.make_piece_ready.ensures.book (laws.of_group c.args.text.now c.args.group c.in_ok-roomed.roomed c.args.first c.in_ok-ready.ready c.in_ok-roomed.ensures.same c.in_ok-ready.ensures.ready) c.in_ok-ready.ensures.room in
     let is : c.head_in-head.result.now ≡ (stored_in ready.stored).head =
     c.head_in-head.ensures ∙ sym (laws.head_same group.stored first) ∙ sym (ap (λ (s : Stored). s.head) t.ready_is.stored) in
     let there = laws.head_known g.D.Disk c.storing_has_a_basis.ensures c.reading_laws.ensures was now text group first begins ready t in
@@ -143,7 +143,7 @@ taken g c =
     let begins = c.args.begins in
     laws.taking g.D.Disk c.args.self.now was c.self.inside.volumes now text group first begins ready c.self.view_is refl refl c.self.invariant
     c.requires.not_full c.requires.group c.requires.refers c.requires.holds c.requires.bounds c.make_piece_ready.ensures.journal
-    c.make_piece_ready.ensures.book (laws.handed_back text group first c.in_ok-ready.ready ready c.in_ok-entered.ensures.same c.in_ok-ready.ensures.ready)
+    c.make_piece_ready.ensures.book (laws.handed_back text group first c.in_ok-ready.ready ready c.in_ok-entered.ensures.same (laws.of_group c.args.text.now c.args.group c.in_ok-roomed.roomed c.args.first c.in_ok-ready.ready c.in_ok-roomed.ensures.same c.in_ok-ready.ensures.ready))
     (laws.room_back c.self.inside.volumes now begins c.in_ok-ready.ready ready c.in_ok-entered.ensures.same c.in_ok-ready.ensures.room)
 
 pub commit-requires-clause-ready : goal.commit-requires-clause-ready
@@ -159,62 +159,62 @@ commit-requires-clause-measured g c = (taken g c).is.measured
 
 pub commit-requires-clause-spots : goal.commit-requires-clause-spots
 commit-requires-clause-spots g c =
-    subst (λ (l : List Spot). AreSpotsOf (book_of c.make_piece_ready.new.volumes.held) l) (sym c.reserve_kept.ensures.spots) (taken g c).is.spots
+    subst (λ (l : List Spot). AreSpotsOf (book_of c.make_piece_ready.new.volumes.held) l) (sym c.with_room.ensures.spots) (taken g c).is.spots
 
 pub commit-requires-clause-within : goal.commit-requires-clause-within
 commit-requires-clause-within g c told =
-    subst (AreWithin (texts g.D.Disk c.make_piece_ready.new.volumes.journal)) (sym c.reserve_kept.ensures.spots) ((taken g c).is.within told)
+    subst (AreWithin (texts g.D.Disk c.make_piece_ready.new.volumes.journal)) (sym c.with_room.ensures.spots) ((taken g c).is.within told)
 
 pub commit-requires-clause-placed : goal.commit-requires-clause-placed
 commit-requires-clause-placed g c told =
     let now = c.make_piece_ready.new.volumes in
-    subst (λ (l : List Spot). ArePlaced (texts g.D.Disk now.journal) (book_of now.held) l) (sym c.reserve_kept.ensures.spots) ((taken g c).is.placed told)
+    subst (λ (l : List Spot). ArePlaced (texts g.D.Disk now.journal) (book_of now.held) l) (sym c.with_room.ensures.spots) ((taken g c).is.placed told)
 
 pub commit-requires-clause-table : goal.commit-requires-clause-table
 commit-requires-clause-table g c =
-    c.reserve_kept.ensures.table ∙ c.self.invariant.table ∙ sym (ap (λ (l : List Spot). whole_from 0 l) c.reserve_kept.ensures.spots)
+    c.with_room.ensures.table ∙ c.self.invariant.table ∙ sym (ap (λ (l : List Spot). whole_from 0 l) c.with_room.ensures.spots)
 
 pub commit-requires-clause-space : goal.commit-requires-clause-space
 commit-requires-clause-space g c =
-    c.in_ok-reserve_kept.ensures.room
+    c.in_ok-roomed.ensures.room
 
 pub commit-requires-clause-reserved : goal.commit-requires-clause-reserved
 commit-requires-clause-reserved g c =
-    c.in_ok-reserve_kept.ensures.reserved ∙ ap (λ (digest : List ℕ). Some digest) (sym (taken g c).ready_is.digest)
+    c.in_ok-roomed.ensures.reserved ∙ ap (λ (digest : List ℕ). Some digest) (sym (taken g c).ready_is.digest)
 
 pub commit-requires-clause-few : goal.commit-requires-clause-few
 commit-requires-clause-few g c =
-    omega (arith, ap (λ (l : List Spot). length l) c.reserve_kept.ensures.spots, c.self.invariant.spots.count, c.self.invariant.counted.few)
+    omega (arith, ap (λ (l : List Spot). length l) c.with_room.ensures.spots, c.self.invariant.spots.count, c.self.invariant.counted.few)
 
 pub invariant_of-self : goal.invariant_of-self
 invariant_of-self g c =
     let was : Holdings _ = holdings_of c.self.inside in
-    exits.memory_archive g.D.Disk was (record was { journal = c.self.inside.volumes.journal; book = book_of c.self.inside.volumes.held; table = c.reserve_kept.new.table; index = c.self.inside.index; spots = c.reserve_kept.new.spots.items }) refl refl refl refl refl refl refl
-    c.self.invariant c.reserve_kept.ensures.spots c.reserve_kept.ensures.table refl
+    exits.memory_archive g.D.Disk was (record was { journal = c.self.inside.volumes.journal; book = book_of c.self.inside.volumes.held; table = c.with_room.new.table; index = c.self.inside.index; spots = c.with_room.new.spots.items }) refl refl refl refl refl refl refl
+    c.self.invariant c.with_room.ensures.spots c.with_room.ensures.table refl
 
-pub returns-in_err-reserve_kept-clause-puts : goal.returns-in_err-reserve_kept-clause-puts
-returns-in_err-reserve_kept-clause-puts g c =
+pub returns-in_err-roomed-clause-puts : goal.returns-in_err-roomed-clause-puts
+returns-in_err-roomed-clause-puts g c =
     let was : Holdings _ = holdings_of c.self.inside in
-    let is : Holdings _ = record was { journal = c.self.inside.volumes.journal; book = book_of c.self.inside.volumes.held; table = c.reserve_kept.new.table; index = c.self.inside.index; spots = c.reserve_kept.new.spots.items } in
+    let is : Holdings _ = record was { journal = c.self.inside.volumes.journal; book = book_of c.self.inside.volumes.held; table = c.with_room.new.table; index = c.self.inside.index; spots = c.with_room.new.spots.items } in
     subst (λ (held : Holdings _). Puts g.D.Disk held is (parts_as c.args.text.now c.args.group c.args.first c.args.begins) c.from_residual.result) c.self.view_is
     (laws.memory_exit g.D.Disk was is c.args.text.now c.args.group c.args.first c.args.begins
     (laws.untouched g.D.Disk was is refl refl refl refl refl refl) c.from_residual.result c.from_residual.ensures.1)
 
-pub returns-in_err-reserve_kept-clause-faults : goal.returns-in_err-reserve_kept-clause-faults
-returns-in_err-reserve_kept-clause-faults g c =
+pub returns-in_err-roomed-clause-faults : goal.returns-in_err-roomed-clause-faults
+returns-in_err-roomed-clause-faults g c =
     laws.memory_faults g.D.Disk c.args.self.now.journal (c.self.inside.volumes.journal)
     (refl ∙ ap (λ (held : Holdings _). held.journal) c.self.view_is) c.from_residual.result c.from_residual.ensures.1
 
 pub invariant_of-self-in_err-ready : goal.invariant_of-self-in_err-ready
 invariant_of-self-in_err-ready g c =
     let was : Holdings _ = holdings_of c.self.inside in
-    exits.memory_archive g.D.Disk was (record was { journal = c.make_piece_ready.new.volumes.journal; book = book_of c.make_piece_ready.new.volumes.held; table = c.reserve_kept.new.table; index = c.self.inside.index; spots = c.reserve_kept.new.spots.items }) c.make_piece_ready.ensures.journal c.make_piece_ready.ensures.book refl refl refl refl refl
-    c.self.invariant c.reserve_kept.ensures.spots c.reserve_kept.ensures.table refl
+    exits.memory_archive g.D.Disk was (record was { journal = c.make_piece_ready.new.volumes.journal; book = book_of c.make_piece_ready.new.volumes.held; table = c.with_room.new.table; index = c.self.inside.index; spots = c.with_room.new.spots.items }) c.make_piece_ready.ensures.journal c.make_piece_ready.ensures.book refl refl refl refl refl
+    c.self.invariant c.with_room.ensures.spots c.with_room.ensures.table refl
 
 pub returns-in_err-ready-clause-puts : goal.returns-in_err-ready-clause-puts
 returns-in_err-ready-clause-puts g c =
     let was : Holdings _ = holdings_of c.self.inside in
-    let is : Holdings _ = record was { journal = c.make_piece_ready.new.volumes.journal; book = book_of c.make_piece_ready.new.volumes.held; table = c.reserve_kept.new.table; index = c.self.inside.index; spots = c.reserve_kept.new.spots.items } in
+    let is : Holdings _ = record was { journal = c.make_piece_ready.new.volumes.journal; book = book_of c.make_piece_ready.new.volumes.held; table = c.with_room.new.table; index = c.self.inside.index; spots = c.with_room.new.spots.items } in
     subst (λ (held : Holdings _). Puts g.D.Disk held is (parts_as c.args.text.now c.args.group c.args.first c.args.begins) c.from_residual-in_err-ready.result) c.self.view_is
     (laws.memory_exit g.D.Disk was is c.args.text.now c.args.group c.args.first c.args.begins
     (laws.untouched g.D.Disk was is c.make_piece_ready.ensures.journal c.make_piece_ready.ensures.book refl refl refl refl) c.from_residual-in_err-ready.result c.from_residual-in_err-ready.ensures.1)
@@ -227,13 +227,13 @@ returns-in_err-ready-clause-faults g c =
 pub invariant_of-self-in_err-entered : goal.invariant_of-self-in_err-entered
 invariant_of-self-in_err-entered g c =
     let was : Holdings _ = holdings_of c.self.inside in
-    exits.memory_archive g.D.Disk was (record was { journal = c.make_piece_ready.new.volumes.journal; book = book_of c.make_piece_ready.new.volumes.held; table = c.reserve_kept.new.table; index = c.enter_ready.new.index; spots = c.reserve_kept.new.spots.items }) c.make_piece_ready.ensures.journal c.make_piece_ready.ensures.book c.in_err-entered.ensures.refused refl refl refl refl
-    c.self.invariant c.reserve_kept.ensures.spots c.reserve_kept.ensures.table refl
+    exits.memory_archive g.D.Disk was (record was { journal = c.make_piece_ready.new.volumes.journal; book = book_of c.make_piece_ready.new.volumes.held; table = c.with_room.new.table; index = c.enter_ready.new.index; spots = c.with_room.new.spots.items }) c.make_piece_ready.ensures.journal c.make_piece_ready.ensures.book c.in_err-entered.ensures.refused refl refl refl refl
+    c.self.invariant c.with_room.ensures.spots c.with_room.ensures.table refl
 
 pub returns-in_err-entered-clause-puts : goal.returns-in_err-entered-clause-puts
 returns-in_err-entered-clause-puts g c =
     let was : Holdings _ = holdings_of c.self.inside in
-    let is : Holdings _ = record was { journal = c.make_piece_ready.new.volumes.journal; book = book_of c.make_piece_ready.new.volumes.held; table = c.reserve_kept.new.table; index = c.enter_ready.new.index; spots = c.reserve_kept.new.spots.items } in
+    let is : Holdings _ = record was { journal = c.make_piece_ready.new.volumes.journal; book = book_of c.make_piece_ready.new.volumes.held; table = c.with_room.new.table; index = c.enter_ready.new.index; spots = c.with_room.new.spots.items } in
     subst (λ (held : Holdings _). Puts g.D.Disk held is (parts_as c.args.text.now c.args.group c.args.first c.args.begins) c.from_residual-in_err-entered.result) c.self.view_is
     (laws.memory_exit g.D.Disk was is c.args.text.now c.args.group c.args.first c.args.begins
     (laws.untouched g.D.Disk was is c.make_piece_ready.ensures.journal c.make_piece_ready.ensures.book c.in_err-entered.ensures.refused refl refl refl) c.from_residual-in_err-entered.result c.from_residual-in_err-entered.ensures.1)
@@ -254,7 +254,7 @@ invariant_of-self-in-Err g c =
     let begins = c.args.begins in
     let t = laws.taking g.D.Disk c.args.self.now was c.self.inside.volumes now text group first begins ready c.self.view_is refl refl c.self.invariant
     c.requires.not_full c.requires.group c.requires.refers c.requires.holds c.requires.bounds c.make_piece_ready.ensures.journal
-    c.make_piece_ready.ensures.book (laws.handed_back text group first c.in_ok-ready.ready ready c.in_ok-entered.ensures.same c.in_ok-ready.ensures.ready)
+    c.make_piece_ready.ensures.book (laws.handed_back text group first c.in_ok-ready.ready ready c.in_ok-entered.ensures.same (laws.of_group c.args.text.now c.args.group c.in_ok-roomed.roomed c.args.first c.in_ok-ready.ready c.in_ok-roomed.ensures.same c.in_ok-ready.ensures.ready))
     (laws.room_back c.self.inside.volumes now begins c.in_ok-ready.ready ready c.in_ok-entered.ensures.same c.in_ok-ready.ensures.room) in
     let has = c.in_ok-entered.ensures.entered in
     let at_is = exits.record_back now c.in_ok-ready.ready ready c.record_at-at.result c.len-number.result c.in_ok-entered.ensures.same c.record_at-at.ensures in
@@ -268,9 +268,9 @@ invariant_of-self-in-Err g c =
     laws.refused_archive g.D.Disk c.storing_has_a_basis.ensures c.reading_laws.ensures was now text group first begins ready t c.record_at-at.result c.len-number.result at_is number has.entry has.enters
     c.commit.new.self.journal (book_of c.commit.new.self.held) c.commit.new.table c.take_back.new.self c.commit.new.spots.items
     c.commit.ensures.holds c.commit.ensures.measured c.commit.ensures.table c.commit.ensures.spots c.commit.ensures.within c.commit.ensures.placed
-    (λ untold. c.commit.ensures.made (subst (λ (l : List Spot). AreHeldWhole (book_of now.held) l) (sym c.reserve_kept.ensures.spots) (t.is.made untold)))
+    (λ untold. c.commit.ensures.made (subst (λ (l : List Spot). AreHeldWhole (book_of now.held) l) (sym c.with_room.ensures.spots) (t.is.made untold)))
     c.commit.ensures.others
-    c.in-Err.ensures.left back c.in-Err.field-0 (c.in-Err.ensures.unkept ∙ c.reserve_kept.ensures.spots) c.in-Err.ensures.writes
+    c.in-Err.ensures.left back c.in-Err.field-0 (c.in-Err.ensures.unkept ∙ c.with_room.ensures.spots) c.in-Err.ensures.writes
 
 pub returns-in-Err-clause-puts : goal.returns-in-Err-clause-puts
 returns-in-Err-clause-puts g c =
@@ -283,7 +283,7 @@ returns-in-Err-clause-puts g c =
     let begins = c.args.begins in
     let t = laws.taking g.D.Disk c.args.self.now was c.self.inside.volumes now text group first begins ready c.self.view_is refl refl c.self.invariant
     c.requires.not_full c.requires.group c.requires.refers c.requires.holds c.requires.bounds c.make_piece_ready.ensures.journal
-    c.make_piece_ready.ensures.book (laws.handed_back text group first c.in_ok-ready.ready ready c.in_ok-entered.ensures.same c.in_ok-ready.ensures.ready)
+    c.make_piece_ready.ensures.book (laws.handed_back text group first c.in_ok-ready.ready ready c.in_ok-entered.ensures.same (laws.of_group c.args.text.now c.args.group c.in_ok-roomed.roomed c.args.first c.in_ok-ready.ready c.in_ok-roomed.ensures.same c.in_ok-ready.ensures.ready))
     (laws.room_back c.self.inside.volumes now begins c.in_ok-ready.ready ready c.in_ok-entered.ensures.same c.in_ok-ready.ensures.room) in
     let has = c.in_ok-entered.ensures.entered in
     let at_is = exits.record_back now c.in_ok-ready.ready ready c.record_at-at.result c.len-number.result c.in_ok-entered.ensures.same c.record_at-at.ensures in
@@ -307,7 +307,7 @@ returns-in-Err-clause-puts g c =
     (laws.refused_puts g.D.Disk c.storing_has_a_basis.ensures c.reading_laws.ensures was now text group first begins ready t c.record_at-at.result c.len-number.result at_is number has.entry has.enters
     c.commit.new.self.journal (book_of c.commit.new.self.held) c.commit.new.table c.take_back.new.self c.commit.new.spots.items
     c.commit.ensures.holds c.commit.ensures.measured c.commit.ensures.table c.commit.ensures.spots c.commit.ensures.within c.commit.ensures.placed
-    (λ untold. c.commit.ensures.made (subst (λ (l : List Spot). AreHeldWhole (book_of now.held) l) (sym c.reserve_kept.ensures.spots) (t.is.made untold)))
+    (λ untold. c.commit.ensures.made (subst (λ (l : List Spot). AreHeldWhole (book_of now.held) l) (sym c.with_room.ensures.spots) (t.is.made untold)))
     c.commit.ensures.others
     c.in-Err.ensures.left back c.in-Err.field-0 c.in-Err.ensures.writes c.in-Err.ensures.bytes)
 
@@ -330,7 +330,7 @@ invariant_of-self-in-Ok g c =
     let begins = c.args.begins in
     let t = laws.taking g.D.Disk c.args.self.now was c.self.inside.volumes now text group first begins ready c.self.view_is refl refl c.self.invariant
     c.requires.not_full c.requires.group c.requires.refers c.requires.holds c.requires.bounds c.make_piece_ready.ensures.journal
-    c.make_piece_ready.ensures.book (laws.handed_back text group first c.in_ok-ready.ready ready c.in_ok-entered.ensures.same c.in_ok-ready.ensures.ready)
+    c.make_piece_ready.ensures.book (laws.handed_back text group first c.in_ok-ready.ready ready c.in_ok-entered.ensures.same (laws.of_group c.args.text.now c.args.group c.in_ok-roomed.roomed c.args.first c.in_ok-ready.ready c.in_ok-roomed.ensures.same c.in_ok-ready.ensures.ready))
     (laws.room_back c.self.inside.volumes now begins c.in_ok-ready.ready ready c.in_ok-entered.ensures.same c.in_ok-ready.ensures.room) in
     let has = c.in_ok-entered.ensures.entered in
     let at_is = exits.record_back now c.in_ok-ready.ready ready c.record_at-at.result c.len-number.result c.in_ok-entered.ensures.same c.record_at-at.ensures in
@@ -342,10 +342,10 @@ invariant_of-self-in-Ok g c =
     laws.stored_archive g.D.Disk c.storing_has_a_basis.ensures c.reading_laws.ensures was now text group first begins ready t c.record_at-at.result c.len-number.result at_is number has.entry has.enters
     c.commit.new.self.journal (book_of c.commit.new.self.held) c.commit.new.table c.enter_ready.new.index c.commit.new.spots.items
     c.commit.ensures.holds c.commit.ensures.measured c.commit.ensures.table c.commit.ensures.spots c.commit.ensures.within c.commit.ensures.placed
-    (λ untold. c.commit.ensures.made (subst (λ (l : List Spot). AreHeldWhole (book_of now.held) l) (sym c.reserve_kept.ensures.spots) (t.is.made untold)))
+    (λ untold. c.commit.ensures.made (subst (λ (l : List Spot). AreHeldWhole (book_of now.held) l) (sym c.with_room.ensures.spots) (t.is.made untold)))
     c.commit.ensures.others
     (c.self.inside.revisits + c.revisits_in.result) c.in-Ok.ensures.stored has.is c.in-Ok.field-0
-    (c.in-Ok.ensures.kept ∙ ap (λ (l : List Spot). l ++ spot_in now ready ∷ []) c.reserve_kept.ensures.spots) c.in-Ok.ensures.writes c.enter_ready.ensures.indexed more
+    (c.in-Ok.ensures.kept ∙ ap (λ (l : List Spot). l ++ spot_in now ready ∷ []) c.with_room.ensures.spots) c.in-Ok.ensures.writes c.enter_ready.ensures.indexed more
 
 pub returns-in-Ok-clause-puts : goal.returns-in-Ok-clause-puts
 returns-in-Ok-clause-puts g c =
@@ -358,7 +358,7 @@ returns-in-Ok-clause-puts g c =
     let begins = c.args.begins in
     let t = laws.taking g.D.Disk c.args.self.now was c.self.inside.volumes now text group first begins ready c.self.view_is refl refl c.self.invariant
     c.requires.not_full c.requires.group c.requires.refers c.requires.holds c.requires.bounds c.make_piece_ready.ensures.journal
-    c.make_piece_ready.ensures.book (laws.handed_back text group first c.in_ok-ready.ready ready c.in_ok-entered.ensures.same c.in_ok-ready.ensures.ready)
+    c.make_piece_ready.ensures.book (laws.handed_back text group first c.in_ok-ready.ready ready c.in_ok-entered.ensures.same (laws.of_group c.args.text.now c.args.group c.in_ok-roomed.roomed c.args.first c.in_ok-ready.ready c.in_ok-roomed.ensures.same c.in_ok-ready.ensures.ready))
     (laws.room_back c.self.inside.volumes now begins c.in_ok-ready.ready ready c.in_ok-entered.ensures.same c.in_ok-ready.ensures.room) in
     let has = c.in_ok-entered.ensures.entered in
     let at_is = exits.record_back now c.in_ok-ready.ready ready c.record_at-at.result c.len-number.result c.in_ok-entered.ensures.same c.record_at-at.ensures in
@@ -380,6 +380,6 @@ returns-in-Ok-clause-puts g c =
     (laws.stored_puts g.D.Disk c.storing_has_a_basis.ensures c.reading_laws.ensures was now text group first begins ready t c.record_at-at.result c.len-number.result at_is number has.entry has.enters
     c.commit.new.self.journal (book_of c.commit.new.self.held) c.commit.new.table c.enter_ready.new.index c.commit.new.spots.items
     c.commit.ensures.holds c.commit.ensures.measured c.commit.ensures.table c.commit.ensures.spots c.commit.ensures.within c.commit.ensures.placed
-    (λ untold. c.commit.ensures.made (subst (λ (l : List Spot). AreHeldWhole (book_of now.held) l) (sym c.reserve_kept.ensures.spots) (t.is.made untold)))
+    (λ untold. c.commit.ensures.made (subst (λ (l : List Spot). AreHeldWhole (book_of now.held) l) (sym c.with_room.ensures.spots) (t.is.made untold)))
     c.commit.ensures.others
     (c.self.inside.revisits + c.revisits_in.result) c.in-Ok.ensures.stored has.is c.in-Ok.field-0 c.in-Ok.ensures.writes c.in-Ok.ensures.last_len c.in-Ok.ensures.bytes c.len-number.result number)
