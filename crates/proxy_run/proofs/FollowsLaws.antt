@@ -24,9 +24,10 @@ use Rattle.command.proofs.OpeningLaws.{ids_differ, only_one}
 use Rattle.replica.proofs.FollowLaws.{at_last, ended_unasked}
 use Rattle.replica.specs.Following.{IsOfRefused, IsOnWay, OpensBehind, Step, is_disk_stop}
 use Rattle.proxy_run.specs.Follows.{Follows, FollowsTo}
+use Rattle.proxy_run.specs.StopTexts.{numbered}
 use Rattle.command.specs.Objects.{Objects}
 use Rattle.command.specs.Opening.{IsOpened}
-use Rattle.command.specs.Printing.{printed_as}
+use Rattle.command.specs.Printing.{LacksMemory, Prints, printed_as}
 use Rattle.replica.specs.Sources.{source_of}
 use Rattle.replica.specs.declared.asking.SourceFault.TheVariants as sources
 use Rattle.replica.specs.declared.following.Stop.TheVariants.{Source}
@@ -41,8 +42,15 @@ unasked disks dialers sinks tells source now dialer out = record {
   result = Err (Source (length (captures now.book)) sources.Memory);
   followed = ended_unasked disks source tells now (dialers.links dialer);
   dialer_faults = refl;
-  told = inr (record { status_is = refl; same = refl });
+  told = record { status_is = refl; same = refl };
 }
+
+-- a text that tells a number
+pub told_number : {O : Type 0} (sinks : Sinks O) (said : Status) (words : List ℕ) (n m : ℕ) (was is : O) (result : Status) → n ≡ m
+    → Prints sinks said (numbered words n) was is result ⊎ LacksMemory sinks was is result
+    → Prints sinks said (numbered words m) was is result ⊎ LacksMemory sinks was is result
+told_number sinks said words n m was is result same told =
+    subst (λ (k : ℕ). Prints sinks said (numbered words k) was is result ⊎ LacksMemory sinks was is result) same told
 
 behind_so : {D : Type 0} (steps : List (Step D)) (reached : Book) (Before Now : Book → Type 0) (x : Book) → (Before x → Now x)
     → OpensBehind steps reached Before x → OpensBehind steps reached Now x
