@@ -1,5 +1,5 @@
 -- The verdicts on volumes whose counts the bytes bear out are one.
-use Rattle.std.proofs.Common.{◌≡◌, ℕ, ◌<◌, List, [], ◌∷◌, length, drop, All, refl, sym, ap, subst, ◌∙◌, arith}
+use Rattle.std.proofs.Common.{◌≡◌, ℕ, suc, ◌<◌, nat_eq, List, [], ◌∷◌, length, drop, All, refl, sym, ap, subst, ◌∙◌, arith}
 use Rattle.std.specs.Prelude.{slice_get}
 use Rattle.std.proofs.lemmas.List.Elements.{All-head, All-tail}
 use Rattle.std.proofs.lemmas.Option.{same_Some}
@@ -9,6 +9,7 @@ use Rattle.archive_volumes.specs.declared.volume_facts.VolumeFacts.{VolumeFacts}
 use Rattle.disk_model.specs.Image.{Image, file_of}
 use Rattle.disk_model.specs.declared.kind.Kind.TheVariants.{Warc}
 use Rattle.fixity.proofs.OneVerdict.{one_verdict}
+use Rattle.fixity.specs.Verdicts.{volume_of}
 use Rattle.proxy_run.proofs.SoundVolumes.{facts_long}
 use Rattle.proxy_run.specs.Verified.{VolumesVerifyOneWay}
 use Rattle.proxy_run.specs.Verifies.{Checked, IsRight, facts_in}
@@ -25,7 +26,7 @@ same_verdicts namespace count image (x ∷ xs) (y ∷ ys) same a b =
     let theirs : IsRight namespace count image (record { facts = x.facts; verdict = y.verdict }) =
     subst (λ (f : VolumeFacts). IsRight namespace count image (record { facts = f; verdict = y.verdict })) (sym facts) (All-head P y ys b) in
     let verdict : x.verdict ≡ y.verdict =
-    one_verdict _ (file_of image Warc x.facts.volume) x.verdict y.verdict (All-head P x xs a) theirs in
+    one_verdict (volume_of x.facts.volume namespace x.facts.first x.facts.count (nat_eq (suc x.facts.volume) count)) (file_of image Warc x.facts.volume) x.verdict y.verdict (All-head P x xs a) theirs in
     let rest : xs ≡ ys = same_verdicts namespace count image xs ys (ap (drop 1) same) (All-tail P x xs a) (All-tail P y ys b) in
     λ i. record { facts = facts i; verdict = verdict i } ∷ rest i
 

@@ -174,7 +174,7 @@ fact_sound image book c stands fact right =
     let count : length (facts_of book) ≡ length book.volumes = facts_long 0 0 book.volumes in
     let stood = volume_stands book stands.sound (warc_files image) c.facts.volume c.facts.first c.facts.count stands.for fact.within fact.first_is fact.count_is in
     let one : c.verdict ≡ Sound stood.0 =
-    one_verdict _ (file_of image Warc c.facts.volume) c.verdict (Sound stood.0)
+    one_verdict (volume_of c.facts.volume book.namespace c.facts.first c.facts.count (nat_eq (suc c.facts.volume) (length book.volumes))) (file_of image Warc c.facts.volume) c.verdict (Sound stood.0)
     (subst (λ n. IsRight book.namespace n image c) count right) stood.1 in
     ap (λ (v : Verdict). is_damaged v) one
 
