@@ -21,7 +21,7 @@ use Rattle.archive_shelf.specs.declared.fault.BringFault.TheVariants as brings
 use Rattle.archive_volumes.proofs.ChangeLaws.{DiskLaws, laws_muted}
 use Rattle.archive_volumes.proofs.StoreLaws.{quiet_itself}
 use Rattle.archive_volumes.proofs.WrittenLaws.{rests_itself}
-use Rattle.archive_volumes.specs.Bringing.{BringsFrom, OnlyReads}
+use Rattle.archive_volumes.specs.Bringing.{BringsFrom, CanReadBy, OnlyReads}
 use Rattle.archive_volumes.specs.Held.{book_of}
 use Rattle.archive_core.proofs.FinishedLaws.{first_stay}
 use Rattle.archive_core.specs.Finished.{FirstAreFinished}
@@ -35,6 +35,10 @@ use Rattle.archive_core.proofs.TellingLaws.{quiet_muted}
 use Rattle.archive_core.proofs.NamedLaws.{as_shown}
 use Rattle.archive_volumes.specs.Digests.{BringsDigest}
 use Rattle.archive_volumes.specs.declared.spot.Spot.{Spot}
+
+-- what is read of an archive goes by its spots
+pub readable : {D : Type 0} (d : Ghosts D) {held : Holdings D} → IsArchive d held → CanReadBy d held.told held.journal held.book held.spots
+readable d is = record { holds = is.holds; measured = is.measured; are = is.spots; within = is.within; placed = is.placed }
 
 module _ {D : Type 0} (d : Ghosts D) (held : Holdings D) (old new : Volumes D)
     (journal_is : held.journal ≡ old.journal) (book_is : held.book ≡ book_of old.held) (reads : OnlyReads d old new) where

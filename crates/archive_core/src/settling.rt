@@ -1,11 +1,10 @@
 //! How the checkpoints of sealed volumes are written.
 ghost use Rattle.std.specs.Prelude.{◌≡◌, ◌≤◌, ◌+◌, ◌-◌, ◌<◌, ◌^◌, IsTrue, OnOk, length, if◌then◌else◌};
 ghost use Rattle.disk_model.specs.Crash.{Leaves};
-ghost use Rattle.warc_journal.specs.Journals.{disk_of, texts};
+ghost use Rattle.warc_journal.specs.Journals.{disk_of};
 ghost use Rattle.checkpoint.specs.Faults.{CountsDisk};
+ghost use Rattle.archive_volumes.specs.Bringing.{CanReadBy};
 ghost use Rattle.archive_volumes.specs.Held.{book_of};
-ghost use Rattle.archive_volumes.specs.Spots.{AreSpotsOf, ArePlaced, AreWithin};
-ghost use Rattle.archive_volumes.specs.Volumes.{HoldsBook, IsMeasured};
 ghost use Rattle.volume_lines.specs.OfGroups.{IsFactsOf};
 ghost use Rattle.archive_core.specs.Finished.{FirstAreFinished};
 ghost use Rattle.archive_core.specs.Settling.{SettlesOn};
@@ -47,11 +46,7 @@ fn settle_volumes<D: Disk>(
     spots: &[Spot],
     settled: &mut u32,
 ) -> Result<u32, CheckpointFault>
-    requires holds { HoldsBook D.Disk told.now.value volumes.old.journal (book_of volumes.old.held) }
-    requires measured { IsMeasured volumes.old.journal (book_of volumes.old.held) }
-    requires spots { AreSpotsOf (book_of volumes.old.held) spots.now }
-    requires within { IsTrue D.tells → AreWithin (texts D.Disk volumes.old.journal) spots.now }
-    requires placed { IsTrue told.now.value → ArePlaced (texts D.Disk volumes.old.journal) (book_of volumes.old.held) spots.now }
+    requires readable { CanReadBy D.Disk told.now.value volumes.old.journal (book_of volumes.old.held) spots.now }
     requires few { length spots.now + 1 < 2 ^ 32 }
     requires sealed { settled.old ≤ length (book_of volumes.old.held).volumes - 1 }
     requires first { IsTrue told.now.value → Leaves (D.images (disk_of volumes.old.journal)) (FirstAreFinished (book_of volumes.old.held) settled.old) }
@@ -90,11 +85,7 @@ fn settle_volume<D: Disk>(
     spots: &[Spot],
     facts: VolumeFacts,
 ) -> Result<bool, CheckpointFault>
-    requires holds { HoldsBook D.Disk told.now.value volumes.old.journal (book_of volumes.old.held) }
-    requires measured { IsMeasured volumes.old.journal (book_of volumes.old.held) }
-    requires spots { AreSpotsOf (book_of volumes.old.held) spots.now }
-    requires within { IsTrue D.tells → AreWithin (texts D.Disk volumes.old.journal) spots.now }
-    requires placed { IsTrue told.now.value → ArePlaced (texts D.Disk volumes.old.journal) (book_of volumes.old.held) spots.now }
+    requires readable { CanReadBy D.Disk told.now.value volumes.old.journal (book_of volumes.old.held) spots.now }
     requires there { IsFactsOf (book_of volumes.old.held) facts }
     requires some { 0 < facts.count }
     requires small { facts.first + facts.count < 2 ^ 32 }

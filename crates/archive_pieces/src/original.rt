@@ -1,15 +1,14 @@
 //! The capture to which a piece refers.
 ghost use Rattle.std.specs.Prelude.{◌≡◌, ◌≢◌, ◌<◌, ℕ, IfOk, IsFalse, IsTrue, Some, None, length, slice_get};
 ghost use Rattle.revisit_table.specs.Table.{numbers_of};
-ghost use Rattle.warc_journal.specs.Journals.{disk_of, texts};
+ghost use Rattle.warc_journal.specs.Journals.{disk_of};
 ghost use Rattle.archive_shelf.specs.Answers.{CountsIf};
-ghost use Rattle.archive_volumes.specs.Bringing.{OnlyReads};
+ghost use Rattle.archive_volumes.specs.Bringing.{CanReadBy, OnlyReads};
 ghost use Rattle.archive_volumes.specs.Choosing.{MayBeWhole};
 ghost use Rattle.archive_volumes.specs.Decoding.{TellsFraming};
 ghost use Rattle.archive_volumes.specs.Held.{book_of};
 ghost use Rattle.archive_volumes.specs.Rereading.{HaveDigest, IsToldBy};
-ghost use Rattle.archive_volumes.specs.Spots.{AreHeldWhole, AreSpotsOf, ArePlaced, AreWithin, whole_from};
-ghost use Rattle.archive_volumes.specs.Volumes.{HoldsBook, IsMeasured};
+ghost use Rattle.archive_volumes.specs.Spots.{AreHeldWhole, whole_from};
 ghost use Rattle.archive_volumes.specs.declared.spot.Spot.{Spot as SpotValue};
 ghost use Rattle.archive_pieces.specs.PieceFaults.{is_take_fault};
 ghost use Rattle.archive_pieces.specs.PieceOriginals.{Agrees, AsksLength, AsksOriginal, ChoosesOriginal, FindsOriginal, IsLengthIn, IsNextGroup, agrees_by, whole_len_by};
@@ -107,12 +106,8 @@ fn whole_len<D: Disk>(
     spots: &[Spot],
     number: u32,
 ) -> Result<Option<u64>, PieceFault>
-    requires holds { HoldsBook D.Disk told.now.value volumes.old.journal (book_of volumes.old.held) }
-    requires measured { IsMeasured volumes.old.journal (book_of volumes.old.held) }
+    requires readable { CanReadBy D.Disk told.now.value volumes.old.journal (book_of volumes.old.held) spots.now }
     requires below { number < length spots.now }
-    requires spots { AreSpotsOf (book_of volumes.old.held) spots.now }
-    requires within { IsTrue D.tells → AreWithin (texts D.Disk volumes.old.journal) spots.now }
-    requires placed { IsTrue told.now.value → ArePlaced (texts D.Disk volumes.old.journal) (book_of volumes.old.held) spots.now }
     ensures asks { AsksLength told.now.value (book_of volumes.old.held) number result }
     ensures reads { OnlyReads D.Disk volumes.old volumes.new }
     ensures faults { CountsIf (is_take_fault result) (D.faults (disk_of volumes.old.journal)) (D.faults (disk_of volumes.new.journal)) }
@@ -132,12 +127,8 @@ fn is_original<D: Disk>(
     group: &Group,
     same: &Revisited,
 ) -> Result<bool, PieceFault>
-    requires holds { HoldsBook D.Disk told.now.value volumes.old.journal (book_of volumes.old.held) }
-    requires measured { IsMeasured volumes.old.journal (book_of volumes.old.held) }
+    requires readable { CanReadBy D.Disk told.now.value volumes.old.journal (book_of volumes.old.held) spots.now }
     requires below { number < length spots.now }
-    requires spots { AreSpotsOf (book_of volumes.old.held) spots.now }
-    requires within { IsTrue D.tells → AreWithin (texts D.Disk volumes.old.journal) spots.now }
-    requires placed { IsTrue told.now.value → ArePlaced (texts D.Disk volumes.old.journal) (book_of volumes.old.held) spots.now }
     requires digest { (spot : SpotValue) → slice_get spots.now number ≡ Some spot → spot.digest ≡ group.now.digest }
     requires group { IsNextGroup (book_of volumes.old.held) group.now }
     requires same { group.now.same ≡ Some same.now }
@@ -172,11 +163,7 @@ fn first_original<D: Disk>(
     group: &Group,
     same: &Revisited,
 ) -> Result<Option<u32>, PieceFault>
-    requires holds { HoldsBook D.Disk told.now.value volumes.old.journal (book_of volumes.old.held) }
-    requires measured { IsMeasured volumes.old.journal (book_of volumes.old.held) }
-    requires spots { AreSpotsOf (book_of volumes.old.held) spots.now }
-    requires within { IsTrue D.tells → AreWithin (texts D.Disk volumes.old.journal) spots.now }
-    requires placed { IsTrue told.now.value → ArePlaced (texts D.Disk volumes.old.journal) (book_of volumes.old.held) spots.now }
+    requires readable { CanReadBy D.Disk told.now.value volumes.old.journal (book_of volumes.old.held) spots.now }
     requires made { IsFalse told.now.value → AreHeldWhole (book_of volumes.old.held) spots.now }
     requires whole { MayBeWhole spots.now candidates.now }
     requires digest { HaveDigest spots.now candidates.now group.now.digest }
@@ -204,11 +191,7 @@ pub fn original_of<D: Disk>(
     table: &Digests,
     group: &Group,
 ) -> Result<Option<u32>, PieceFault>
-    requires holds { HoldsBook D.Disk told.now.value volumes.old.journal (book_of volumes.old.held) }
-    requires measured { IsMeasured volumes.old.journal (book_of volumes.old.held) }
-    requires spots { AreSpotsOf (book_of volumes.old.held) spots.now }
-    requires within { IsTrue D.tells → AreWithin (texts D.Disk volumes.old.journal) spots.now }
-    requires placed { IsTrue told.now.value → ArePlaced (texts D.Disk volumes.old.journal) (book_of volumes.old.held) spots.now }
+    requires readable { CanReadBy D.Disk told.now.value volumes.old.journal (book_of volumes.old.held) spots.now }
     requires made { IsFalse told.now.value → AreHeldWhole (book_of volumes.old.held) spots.now }
     requires table { table.now.kept ≡ whole_from 0 spots.now }
     requires group { IsNextGroup (book_of volumes.old.held) group.now }

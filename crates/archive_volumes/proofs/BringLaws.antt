@@ -31,7 +31,7 @@ use Rattle.archive_shelf.specs.Answers.{IsBrought, IsDamaged, IsNamed, IsReplaya
 use Rattle.archive_shelf.specs.Comparing.{KeepsWire}
 use Rattle.archive_volumes.proofs.DecodeLaws.{one_framing}
 use Rattle.archive_volumes.proofs.GroupPlaces.{ends_in_text}
-use Rattle.archive_volumes.specs.Bringing.{AreOf, IsKept, IsReadRight, OnlyReads, brought_of, checked_by, payload_by}
+use Rattle.archive_volumes.specs.Bringing.{AreOf, CanReadBy, IsKept, IsReadRight, OnlyReads, brought_of, checked_by, payload_by}
 use Rattle.archive_volumes.specs.Decoding.{HoldsPayload, IsHead, TellsFraming}
 use Rattle.archive_volumes.specs.Held.{book_of}
 use Rattle.archive_volumes.specs.Spots.{AreHeldWhole, ArePlaced, AreSpotsOf, AreWithin, HasPlace, IsPlaced, IsSpotOf, RefersBack, form_of, head_in, is_cut_form, is_same_form, is_told_form, text_at, wire_in}
@@ -334,6 +334,16 @@ pub placed_on : {D : Type 0} (d : Ghosts D) (old new : Volumes D) → OnlyReads 
 placed_on d old new reads told spots are =
     subst (λ (t : List (List ℕ)). ArePlaced t (book_of new.held) spots) (sym (texts_stay d old new reads told))
     (subst (λ (b : Book). ArePlaced (texts d old.journal) b spots) (sym (ap book_of reads.held)) are)
+
+pub readable_on : {D : Type 0} (d : Ghosts D) (told : Bool) (old new : Volumes D) → OnlyReads d old new → (spots : List Spot)
+    → CanReadBy d told old.journal (book_of old.held) spots → CanReadBy d told new.journal (book_of new.held) spots
+readable_on d told old new reads spots can = record {
+  holds = reads.holds told can.holds;
+  measured = reads.measured can.measured;
+  are = spots_on d old new reads spots can.are;
+  within = λ tells. within_on d old new reads tells spots (can.within tells);
+  placed = λ is. placed_on d old new reads (can.holds.tells is) spots (can.placed is);
+}
 
 pub made_on : {D : Type 0} (d : Ghosts D) (old new : Volumes D) → OnlyReads d old new → (spots : List Spot)
     → AreHeldWhole (book_of old.held) spots → AreHeldWhole (book_of new.held) spots

@@ -6,7 +6,8 @@ use Rattle.capture.specs.Captures.{IsPayloadOf}
 use Rattle.capture.specs.declared.book.Book.{Book}
 use Rattle.capture.specs.declared.captured.Brought.{Brought}
 use Rattle.disk_model.specs.declared.disk.Disk.{Ghosts}
-use Rattle.warc_journal.specs.Journals.{IsInStep, Rests, disk_of, extent_of}
+use Rattle.warc_journal.specs.Journals.{IsInStep, Rests, disk_of, extent_of, texts}
+use Rattle.warc_journal.specs.declared.journal.Journal.{Journal}
 use Rattle.archive_shelf.specs.Answers.{IsBrought, IsDamaged, IsNamed, IsReplayable, KeepsPayloadOf}
 use Rattle.archive_shelf.specs.declared.fault.BringFault.{BringFault}
 use Rattle.archive_shelf.specs.declared.fault.BringFault.TheVariants as brings
@@ -14,7 +15,7 @@ use Rattle.archive_shelf.specs.declared.fault.StoreFault.{StoreFault}
 use Rattle.archive_shelf.specs.declared.fault.StoreFault.TheVariants as stores
 use Rattle.archive_volumes.specs.Decoding.{DecodesToDigest, IsHead}
 use Rattle.archive_volumes.specs.Held.{book_of}
-use Rattle.archive_volumes.specs.Spots.{IsPlaced, IsSpotOf, head_in, is_cut_form, is_same_form, is_told_form, wire_in}
+use Rattle.archive_volumes.specs.Spots.{AreSpotsOf, ArePlaced, AreWithin, IsPlaced, IsSpotOf, head_in, is_cut_form, is_same_form, is_told_form, wire_in}
 use Rattle.archive_volumes.specs.Volumes.{HoldsBook, IsMeasured, IsQuiet}
 use Rattle.archive_volumes.specs.declared.part.ReadFault.{ReadFault}
 use Rattle.archive_volumes.specs.declared.part.ReadFault.TheVariants as reads
@@ -22,6 +23,15 @@ use Rattle.archive_volumes.specs.declared.payload.ReadBack.{ReadBack}
 use Rattle.archive_volumes.specs.declared.payload.ReadBack.TheVariants as back
 use Rattle.archive_volumes.specs.declared.spot.Spot.{Spot}
 use Rattle.archive_volumes.specs.declared.volumes.Volumes.{Volumes}
+
+-- What is read goes by these spots: they are those of the book that the volumes hold. Where the disk tells, what is read of each is within the
+-- text of its volume; where the book is told, each stands where its spot says.
+pub record CanReadBy {D : Type 0} (d : Ghosts D) (told : Bool) (journal : Journal D) (book : Book) (spots : List Spot) : Type 0 where
+  pub holds : HoldsBook d told journal book
+  pub measured : IsMeasured journal book
+  pub are : AreSpotsOf book spots
+  pub within : IsTrue d.tells → AreWithin (texts d journal) spots
+  pub placed : IsTrue told → ArePlaced (texts d journal) book spots
 
 -- The volumes hold the book that they held, and nothing more may be opened. Where the disk tells, a read gives what it gave, and a crash leaves
 -- at each moment what it might have left before.

@@ -6,13 +6,12 @@ ghost use Rattle.warc_journal.specs.Journals.{disk_of, texts};
 ghost use Rattle.archive_shelf.specs.Answers.{CountsIf, NamesKeeper, is_bring_fault};
 ghost use Rattle.archive_shelf.specs.Digests.{GoesByDigest};
 ghost use Rattle.archive_shelf.specs.declared.fault.BringFault.TheVariants.{Damaged as DamagedAt};
-ghost use Rattle.archive_volumes.specs.Bringing.{BringsFrom, OnlyReads, brought_of};
+ghost use Rattle.archive_volumes.specs.Bringing.{BringsFrom, CanReadBy, OnlyReads, brought_of};
 ghost use Rattle.archive_volumes.specs.Damage.{TellsFound};
 ghost use Rattle.archive_volumes.specs.Digests.{BringsDigest, GoesByKeeper, GoesByKept, GoesByLine, GoesByOwn};
 ghost use Rattle.archive_volumes.specs.Held.{book_of};
 ghost use Rattle.archive_volumes.specs.Rereading.{IsBroughtThere};
-ghost use Rattle.archive_volumes.specs.Spots.{AreSpotsOf, ArePlaced, AreWithin, is_same_form, whole_from};
-ghost use Rattle.archive_volumes.specs.Volumes.{HoldsBook, IsMeasured};
+ghost use Rattle.archive_volumes.specs.Spots.{is_same_form, whole_from};
 ghost use Rattle.archive_volumes.specs.declared.spot.Form.TheVariants as forms;
 ghost use Rattle.archive_volumes.specs.declared.spot.Spot.{Spot as SpotValue};
 
@@ -62,12 +61,8 @@ impl<D: Disk> Volumes<D> {
         spots: &[Spot],
         number: u32,
     ) -> Result<Brought, BringFault>
-        requires holds { HoldsBook D.Disk told.now.value self.old.journal (book_of self.old.held) }
-        requires measured { IsMeasured self.old.journal (book_of self.old.held) }
+        requires readable { CanReadBy D.Disk told.now.value self.old.journal (book_of self.old.held) spots.now }
         requires below { number < length spots.now }
-        requires spots { AreSpotsOf (book_of self.old.held) spots.now }
-        requires within { IsTrue D.tells → AreWithin (texts D.Disk self.old.journal) spots.now }
-        requires placed { IsTrue told.now.value → ArePlaced (texts D.Disk self.old.journal) (book_of self.old.held) spots.now }
         requires own { (spot : SpotValue) → slice_get spots.now number ≡ Some spot → is_same_form spot.form ≡ false }
         ensures brings { BringsFrom told.now.value (book_of self.old.held) number result }
         ensures digest { (spot : SpotValue) → slice_get spots.now number ≡ Some spot → GoesByOwn number spot.digest result }
@@ -100,12 +95,8 @@ impl<D: Disk> Volumes<D> {
         number: u32,
         first: u32,
     ) -> Result<Brought, BringFault>
-        requires holds { HoldsBook D.Disk told.now.value self.old.journal (book_of self.old.held) }
-        requires measured { IsMeasured self.old.journal (book_of self.old.held) }
+        requires readable { CanReadBy D.Disk told.now.value self.old.journal (book_of self.old.held) spots.now }
         requires below { number < length spots.now }
-        requires spots { AreSpotsOf (book_of self.old.held) spots.now }
-        requires within { IsTrue D.tells → AreWithin (texts D.Disk self.old.journal) spots.now }
-        requires placed { IsTrue told.now.value → ArePlaced (texts D.Disk self.old.journal) (book_of self.old.held) spots.now }
         requires form { (spot : SpotValue) → slice_get spots.now number ≡ Some spot → spot.form ≡ forms.Same first }
         ensures brings { BringsFrom told.now.value (book_of self.old.held) number result }
         ensures digest { (keeper : SpotValue) → slice_get spots.now first ≡ Some keeper → GoesByKeeper number first keeper.digest result }
@@ -155,12 +146,8 @@ impl<D: Disk> Volumes<D> {
         candidates: &[u32],
         number: u32,
     ) -> Result<Brought, BringFault>
-        requires holds { HoldsBook D.Disk told.now.value self.old.journal (book_of self.old.held) }
-        requires measured { IsMeasured self.old.journal (book_of self.old.held) }
+        requires readable { CanReadBy D.Disk told.now.value self.old.journal (book_of self.old.held) spots.now }
         requires below { number < length spots.now }
-        requires spots { AreSpotsOf (book_of self.old.held) spots.now }
-        requires within { IsTrue D.tells → AreWithin (texts D.Disk self.old.journal) spots.now }
-        requires placed { IsTrue told.now.value → ArePlaced (texts D.Disk self.old.journal) (book_of self.old.held) spots.now }
         requires form { (spot : SpotValue) → slice_get spots.now number ≡ Some spot → spot.form ≡ forms.Told true }
         requires candidates { (spot : SpotValue) → slice_get spots.now number ≡ Some spot
             → candidates.now ≡ numbers_of spot.digest (whole_from 0 spots.now) }
@@ -194,12 +181,8 @@ impl<D: Disk> Volumes<D> {
         table: &Digests,
         number: u32,
     ) -> Result<Brought, BringFault>
-        requires holds { HoldsBook D.Disk told.now.value self.old.journal (book_of self.old.held) }
-        requires measured { IsMeasured self.old.journal (book_of self.old.held) }
+        requires readable { CanReadBy D.Disk told.now.value self.old.journal (book_of self.old.held) spots.now }
         requires below { number < length spots.now }
-        requires spots { AreSpotsOf (book_of self.old.held) spots.now }
-        requires within { IsTrue D.tells → AreWithin (texts D.Disk self.old.journal) spots.now }
-        requires placed { IsTrue told.now.value → ArePlaced (texts D.Disk self.old.journal) (book_of self.old.held) spots.now }
         requires table { table.now.kept ≡ whole_from 0 spots.now }
         ensures brings { BringsFrom told.now.value (book_of self.old.held) number result }
         ensures names { NamesKeeper (book_of self.old.held) number result }

@@ -8,14 +8,13 @@ ghost use Rattle.revisit_table.specs.Table.{numbers_of};
 ghost use Rattle.warc_journal.specs.Journals.{IsInStep, disk_of, texts};
 ghost use Rattle.archive_shelf.specs.Answers.{CountsIf};
 ghost use Rattle.archive_shelf.specs.Comparing.{IsRight};
-ghost use Rattle.archive_volumes.specs.Bringing.{DecodesThere, IsKept, OnlyReads, is_read_fault};
+ghost use Rattle.archive_volumes.specs.Bringing.{CanReadBy, DecodesThere, IsKept, OnlyReads, is_read_fault};
 ghost use Rattle.archive_volumes.specs.Choosing.{Asks, Chooses, Compares, ComparesWith, IsComparison, IsKeptWith, LooksOn, MayBeWhole, MayBeWholeAt, NoneDamagedBelow, OnDamage, OnSame, is_look_fault};
 ghost use Rattle.archive_volumes.specs.Damage.{IsPassedOver, PassesOver, TellsDamage};
 ghost use Rattle.archive_volumes.specs.Decoding.{Decodes, HoldsDigest, HoldsPayload, digest_in, is_plain as spec_plain};
 ghost use Rattle.archive_volumes.specs.Held.{book_of};
 ghost use Rattle.archive_volumes.specs.Rereading.{IsChosenThere};
-ghost use Rattle.archive_volumes.specs.Spots.{AreHeldWhole, AreSpotsOf, ArePlaced, AreWithin, HasPlace, head_in, is_cut_form, whole_from, wire_in};
-ghost use Rattle.archive_volumes.specs.Volumes.{HoldsBook, IsMeasured};
+ghost use Rattle.archive_volumes.specs.Spots.{AreHeldWhole, HasPlace, head_in, is_cut_form, whole_from, wire_in};
 ghost use Rattle.archive_volumes.specs.declared.spot.Form.TheVariants as forms;
 ghost use Rattle.archive_volumes.specs.declared.spot.Spot.{Spot as SpotValue};
 
@@ -231,11 +230,7 @@ impl<D: Disk> Volumes<D> {
         framing: Framing,
         wire: &[u8],
     ) -> Result<bool, StoreFault>
-        requires holds { HoldsBook D.Disk told.now.value self.old.journal (book_of self.old.held) }
-        requires measured { IsMeasured self.old.journal (book_of self.old.held) }
-        requires spots { AreSpotsOf (book_of self.old.held) spots.now }
-        requires within { IsTrue D.tells → AreWithin (texts D.Disk self.old.journal) spots.now }
-        requires placed { IsTrue told.now.value → ArePlaced (texts D.Disk self.old.journal) (book_of self.old.held) spots.now }
+        requires readable { CanReadBy D.Disk told.now.value self.old.journal (book_of self.old.held) spots.now }
         requires made { IsFalse told.now.value → AreHeldWhole (book_of self.old.held) spots.now }
         requires whole { MayBeWholeAt spots.now number }
         requires form { (spot : SpotValue) → slice_get spots.now number ≡ Some spot → spot.form ≡ forms.Told false }
@@ -280,11 +275,7 @@ impl<D: Disk> Volumes<D> {
         framing: Framing,
         wire: &[u8],
     ) -> Result<bool, StoreFault>
-        requires holds { HoldsBook D.Disk told.now.value self.old.journal (book_of self.old.held) }
-        requires measured { IsMeasured self.old.journal (book_of self.old.held) }
-        requires spots { AreSpotsOf (book_of self.old.held) spots.now }
-        requires within { IsTrue D.tells → AreWithin (texts D.Disk self.old.journal) spots.now }
-        requires placed { IsTrue told.now.value → ArePlaced (texts D.Disk self.old.journal) (book_of self.old.held) spots.now }
+        requires readable { CanReadBy D.Disk told.now.value self.old.journal (book_of self.old.held) spots.now }
         requires made { IsFalse told.now.value → AreHeldWhole (book_of self.old.held) spots.now }
         requires whole { MayBeWholeAt spots.now number }
         ensures asks { (payload : List ℕ) → IsPayload false framing wire.now payload → Asks told.now.value (book_of self.old.held) number payload result }
@@ -323,11 +314,7 @@ impl<D: Disk> Volumes<D> {
         framing: Framing,
         wire: &[u8],
     ) -> Result<Option<u32>, StoreFault>
-        requires holds { HoldsBook D.Disk told.now.value self.old.journal (book_of self.old.held) }
-        requires measured { IsMeasured self.old.journal (book_of self.old.held) }
-        requires spots { AreSpotsOf (book_of self.old.held) spots.now }
-        requires within { IsTrue D.tells → AreWithin (texts D.Disk self.old.journal) spots.now }
-        requires placed { IsTrue told.now.value → ArePlaced (texts D.Disk self.old.journal) (book_of self.old.held) spots.now }
+        requires readable { CanReadBy D.Disk told.now.value self.old.journal (book_of self.old.held) spots.now }
         requires made { IsFalse told.now.value → AreHeldWhole (book_of self.old.held) spots.now }
         requires whole { MayBeWhole spots.now candidates.now }
         ensures chooses { (payload : List ℕ) → IsPayload false framing wire.now payload
@@ -361,11 +348,7 @@ impl<D: Disk> Volumes<D> {
         wire: &[u8],
         looked: Looked,
     ) -> Result<Looked, StoreFault>
-        requires holds { HoldsBook D.Disk told.now.value self.old.journal (book_of self.old.held) }
-        requires measured { IsMeasured self.old.journal (book_of self.old.held) }
-        requires spots { AreSpotsOf (book_of self.old.held) spots.now }
-        requires within { IsTrue D.tells → AreWithin (texts D.Disk self.old.journal) spots.now }
-        requires placed { IsTrue told.now.value → ArePlaced (texts D.Disk self.old.journal) (book_of self.old.held) spots.now }
+        requires readable { CanReadBy D.Disk told.now.value self.old.journal (book_of self.old.held) spots.now }
         requires made { IsFalse told.now.value → AreHeldWhole (book_of self.old.held) spots.now }
         requires few { length spots.now < 2 ^ 32 }
         requires wire { IsWire false framing wire.now }

@@ -4,12 +4,11 @@ ghost use Rattle.capture.specs.Faults.{CountsFaults};
 ghost use Rattle.warc_journal.specs.Journals.{IsInStep, disk_of, texts, volumes};
 ghost use Rattle.warc_scan.specs.Outlines.{BeginsWithOutline};
 ghost use Rattle.archive_shelf.specs.Answers.{CountsIf};
-ghost use Rattle.archive_volumes.specs.Bringing.{OnlyReads, is_read_fault};
+ghost use Rattle.archive_volumes.specs.Bringing.{CanReadBy, OnlyReads, is_read_fault};
 ghost use Rattle.archive_volumes.specs.Held.{book_of};
 ghost use Rattle.archive_volumes.specs.KeptGroups.{EndsGroup, EndsWithin, IsFirstIn, IsKeptGroup, IsNextAt, IsSomeGroup};
 ghost use Rattle.archive_volumes.specs.Rereading.{BeginWithText, Reaches, from_place};
-ghost use Rattle.archive_volumes.specs.Spots.{AreSpotsOf, ArePlaced, AreWithin, text_at};
-ghost use Rattle.archive_volumes.specs.Volumes.{HoldsBook, IsMeasured};
+ghost use Rattle.archive_volumes.specs.Spots.{text_at};
 ghost use Rattle.archive_volumes.specs.declared.spot.Spot.{Spot};
 
 use crate::part::ReadFault;
@@ -124,12 +123,8 @@ impl<D: Disk> Volumes<D> {
         spots: &[Spot],
         number: u32,
     ) -> Result<u64, ReadFault>
-        requires holds { HoldsBook D.Disk told.now.value self.old.journal (book_of self.old.held) }
-        requires measured { IsMeasured self.old.journal (book_of self.old.held) }
+        requires readable { CanReadBy D.Disk told.now.value self.old.journal (book_of self.old.held) spots.now }
         requires below { number < length spots.now }
-        requires spots { AreSpotsOf (book_of self.old.held) spots.now }
-        requires within { IsTrue D.tells → AreWithin (texts D.Disk self.old.journal) spots.now }
-        requires placed { IsTrue told.now.value → ArePlaced (texts D.Disk self.old.journal) (book_of self.old.held) spots.now }
         ensures within { IsTrue D.tells → IfOk result (EndsWithin (texts D.Disk self.old.journal) spots.now number) }
         ensures end { IsTrue told.now.value → IfOk result (EndsGroup (book_of self.old.held) spots.now number) }
         ensures reads { OnlyReads D.Disk self.old self.new }
@@ -152,12 +147,8 @@ impl<D: Disk> Volumes<D> {
         spots: &[Spot],
         number: u32,
     ) -> Result<Vec<u8>, ReadFault>
-        requires holds { HoldsBook D.Disk told.now.value self.old.journal (book_of self.old.held) }
-        requires measured { IsMeasured self.old.journal (book_of self.old.held) }
+        requires readable { CanReadBy D.Disk told.now.value self.old.journal (book_of self.old.held) spots.now }
         requires below { number < length spots.now }
-        requires spots { AreSpotsOf (book_of self.old.held) spots.now }
-        requires within { IsTrue D.tells → AreWithin (texts D.Disk self.old.journal) spots.now }
-        requires placed { IsTrue told.now.value → ArePlaced (texts D.Disk self.old.journal) (book_of self.old.held) spots.now }
         ensures begins { IsTrue told.now.value → IfOk result (λ bytes. BeginWithText (book_of self.old.held) number bytes.items) }
         ensures bytes { IsTrue D.tells → (spot : Spot) → slice_get spots.now number ≡ Some spot
             → IfOk result (λ bytes. bytes.items ≡ from_place (texts D.Disk self.old.journal) spot (length bytes.items)) }
@@ -185,12 +176,8 @@ impl<D: Disk> Volumes<D> {
         spots: &[Spot],
         number: u32,
     ) -> Result<KeptGroup, ReadFault>
-        requires holds { HoldsBook D.Disk told.now.value self.old.journal (book_of self.old.held) }
-        requires measured { IsMeasured self.old.journal (book_of self.old.held) }
+        requires readable { CanReadBy D.Disk told.now.value self.old.journal (book_of self.old.held) spots.now }
         requires below { number < length spots.now }
-        requires spots { AreSpotsOf (book_of self.old.held) spots.now }
-        requires within { IsTrue D.tells → AreWithin (texts D.Disk self.old.journal) spots.now }
-        requires placed { IsTrue told.now.value → ArePlaced (texts D.Disk self.old.journal) (book_of self.old.held) spots.now }
         ensures some { IfOk result (IsSomeGroup (book_of self.old.held).namespace number) }
         ensures exact { IsTrue told.now.value → IfOk result (IsKeptGroup (book_of self.old.held) number) }
         ensures reads { OnlyReads D.Disk self.old self.new }

@@ -1,15 +1,13 @@
 //! What a revisit refers to of which a line alone told, found by its record.
 ghost use Rattle.std.specs.Prelude.{◌≡◌, ℕ, List, IfOk, IfSome, IsFalse, IsTrue, Some, slice_get};
 ghost use Rattle.sha1.specs.Sha1.{sha1};
-ghost use Rattle.warc_journal.specs.Journals.{disk_of, texts};
+ghost use Rattle.warc_journal.specs.Journals.{disk_of};
 ghost use Rattle.archive_shelf.specs.Answers.{CountsIf};
 ghost use Rattle.archive_shelf.specs.Comparing.{KeepsWire};
-ghost use Rattle.archive_volumes.specs.Bringing.{OnlyReads, is_read_fault};
+ghost use Rattle.archive_volumes.specs.Bringing.{CanReadBy, OnlyReads, is_read_fault};
 ghost use Rattle.archive_volumes.specs.Choosing.{MayBeWhole, MayBeWholeAt};
 ghost use Rattle.archive_volumes.specs.Held.{book_of};
 ghost use Rattle.archive_volumes.specs.Rereading.{HasItsPayload, HaveDigest, IsFirstTold, IsToldBy, TellsOf, id_of_response, right_by, whole_by};
-ghost use Rattle.archive_volumes.specs.Spots.{AreSpotsOf, ArePlaced, AreWithin};
-ghost use Rattle.archive_volumes.specs.Volumes.{HoldsBook, IsMeasured};
 ghost use Rattle.archive_volumes.specs.declared.spot.Spot.{Spot as SpotValue};
 
 use crate::part::ReadFault;
@@ -79,11 +77,7 @@ impl<D: Disk> Volumes<D> {
         spots: &[Spot],
         number: u32,
     ) -> Result<Option<Bytes>, ReadFault>
-        requires holds { HoldsBook D.Disk told.now.value self.old.journal (book_of self.old.held) }
-        requires measured { IsMeasured self.old.journal (book_of self.old.held) }
-        requires spots { AreSpotsOf (book_of self.old.held) spots.now }
-        requires within { IsTrue D.tells → AreWithin (texts D.Disk self.old.journal) spots.now }
-        requires placed { IsTrue told.now.value → ArePlaced (texts D.Disk self.old.journal) (book_of self.old.held) spots.now }
+        requires readable { CanReadBy D.Disk told.now.value self.old.journal (book_of self.old.held) spots.now }
         requires whole { MayBeWholeAt spots.now number }
         ensures kept { (spot : SpotValue) → slice_get spots.now number ≡ Some spot
             → IfOk result (λ found. IfSome found (λ payload. sha1 payload ≡ spot.digest)) }
@@ -109,11 +103,7 @@ impl<D: Disk> Volumes<D> {
         number: u32,
         same: &Revisited,
     ) -> Result<Option<Bytes>, ReadFault>
-        requires holds { HoldsBook D.Disk told.now.value self.old.journal (book_of self.old.held) }
-        requires measured { IsMeasured self.old.journal (book_of self.old.held) }
-        requires spots { AreSpotsOf (book_of self.old.held) spots.now }
-        requires within { IsTrue D.tells → AreWithin (texts D.Disk self.old.journal) spots.now }
-        requires placed { IsTrue told.now.value → ArePlaced (texts D.Disk self.old.journal) (book_of self.old.held) spots.now }
+        requires readable { CanReadBy D.Disk told.now.value self.old.journal (book_of self.old.held) spots.now }
         requires whole { MayBeWholeAt spots.now number }
         ensures kept { (spot : SpotValue) → slice_get spots.now number ≡ Some spot
             → IfOk result (λ found. IfSome found (λ payload. sha1 payload ≡ spot.digest)) }
@@ -138,11 +128,7 @@ impl<D: Disk> Volumes<D> {
         candidates: &[u32],
         same: &Revisited,
     ) -> Result<Option<Bytes>, ReadFault>
-        requires holds { HoldsBook D.Disk told.now.value self.old.journal (book_of self.old.held) }
-        requires measured { IsMeasured self.old.journal (book_of self.old.held) }
-        requires spots { AreSpotsOf (book_of self.old.held) spots.now }
-        requires within { IsTrue D.tells → AreWithin (texts D.Disk self.old.journal) spots.now }
-        requires placed { IsTrue told.now.value → ArePlaced (texts D.Disk self.old.journal) (book_of self.old.held) spots.now }
+        requires readable { CanReadBy D.Disk told.now.value self.old.journal (book_of self.old.held) spots.now }
         requires whole { MayBeWhole spots.now candidates.now }
         ensures kept { (digest : List ℕ) → HaveDigest spots.now candidates.now digest
             → IfOk result (λ found. IfSome found (λ payload. sha1 payload ≡ digest)) }

@@ -1,15 +1,14 @@
 //! The piece of a capture: its group, with the warcinfo of its volume before it where it is the first of that.
 ghost use Rattle.std.specs.Prelude.{◌≡◌, ◌<◌, ℕ, if◌then◌else◌, IfOk, IsFalse, IsTrue, Ok, Err, Some, length, slice_get};
 ghost use Rattle.std.specs.Str.{bytes_eq};
-ghost use Rattle.warc_journal.specs.Journals.{disk_of, texts};
+ghost use Rattle.warc_journal.specs.Journals.{disk_of};
 ghost use Rattle.archive_shelf.specs.Answers.{CountsIf, is_bring_fault};
 ghost use Rattle.archive_shelf.specs.Digests.{PieceGoesByDigest};
 ghost use Rattle.archive_shelf.specs.Pieces.{IsFirstOf};
-ghost use Rattle.archive_volumes.specs.Bringing.{OnlyReads};
+ghost use Rattle.archive_volumes.specs.Bringing.{CanReadBy, OnlyReads};
 ghost use Rattle.archive_volumes.specs.Held.{book_of};
 ghost use Rattle.archive_volumes.specs.KeptGroups.{GivesPieceFrom, HasFront, PieceGoesByKept, bytes_by};
-ghost use Rattle.archive_volumes.specs.Spots.{AreSpotsOf, ArePlaced, AreWithin};
-ghost use Rattle.archive_volumes.specs.Volumes.{HoldsBook, IsMeasured};
+ghost use Rattle.archive_volumes.specs.Spots.{AreSpotsOf};
 ghost use Rattle.archive_volumes.specs.declared.spot.Spot.{Spot};
 ghost use Rattle.capture.specs.declared.book.Book.{Book};
 
@@ -99,12 +98,8 @@ impl<D: Disk> Volumes<D> {
         spots: &[Spot],
         number: u32,
     ) -> Result<Bytes, BringFault>
-        requires holds { HoldsBook D.Disk told.now.value self.old.journal (book_of self.old.held) }
-        requires measured { IsMeasured self.old.journal (book_of self.old.held) }
+        requires readable { CanReadBy D.Disk told.now.value self.old.journal (book_of self.old.held) spots.now }
         requires below { number < length spots.now }
-        requires spots { AreSpotsOf (book_of self.old.held) spots.now }
-        requires within { IsTrue D.tells → AreWithin (texts D.Disk self.old.journal) spots.now }
-        requires placed { IsTrue told.now.value → ArePlaced (texts D.Disk self.old.journal) (book_of self.old.held) spots.now }
         ensures gives { GivesPieceFrom told.now.value (book_of self.old.held) number result }
         ensures kept { (spot : Spot) → slice_get spots.now number ≡ Some spot → PieceGoesByKept (book_of self.old.held) number spot.digest result }
         ensures digests { PieceGoesByDigest (book_of self.old.held) number result }

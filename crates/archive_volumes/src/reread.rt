@@ -5,11 +5,10 @@ ghost use Rattle.warc_journal.specs.Journals.{disk_of, texts};
 ghost use Rattle.warc_scan.specs.Groups.{IsGroup};
 ghost use Rattle.warc_scan.specs.declared.group.Revisited.{Revisited as RevisitedValue};
 ghost use Rattle.archive_shelf.specs.Answers.{CountsIf};
-ghost use Rattle.archive_volumes.specs.Bringing.{IsChecked, IsReadRight, OnlyReads, is_read_fault};
+ghost use Rattle.archive_volumes.specs.Bringing.{CanReadBy, IsChecked, IsReadRight, OnlyReads, is_read_fault};
 ghost use Rattle.archive_volumes.specs.Held.{book_of};
 ghost use Rattle.archive_volumes.specs.Rereading.{IsBackThere, IsReread, IsRereadBy, IsRereadIn, IsRereadOf, IsRereadThere, IsStoredOf, IsToldOf, own_by, revisit_by};
-ghost use Rattle.archive_volumes.specs.Spots.{AreSpotsOf, ArePlaced, AreWithin, is_same_form};
-ghost use Rattle.archive_volumes.specs.Volumes.{HoldsBook, IsMeasured};
+ghost use Rattle.archive_volumes.specs.Spots.{is_same_form};
 ghost use Rattle.archive_volumes.specs.declared.reread.Reread.TheVariants.{Own as OwnRead, Same as SameRead};
 ghost use Rattle.archive_volumes.specs.declared.spot.Spot.{Spot as SpotValue};
 
@@ -207,12 +206,8 @@ impl<D: Disk> Volumes<D> {
         spots: &[Spot],
         number: u32,
     ) -> Result<Reread, ReadFault>
-        requires holds { HoldsBook D.Disk told.now.value self.old.journal (book_of self.old.held) }
-        requires measured { IsMeasured self.old.journal (book_of self.old.held) }
+        requires readable { CanReadBy D.Disk told.now.value self.old.journal (book_of self.old.held) spots.now }
         requires below { number < length spots.now }
-        requires spots { AreSpotsOf (book_of self.old.held) spots.now }
-        requires within { IsTrue D.tells → AreWithin (texts D.Disk self.old.journal) spots.now }
-        requires placed { IsTrue told.now.value → ArePlaced (texts D.Disk self.old.journal) (book_of self.old.held) spots.now }
         ensures read { (spot : SpotValue) → slice_get spots.now number ≡ Some spot → IfOk result (IsReread spot.digest) }
         ensures there { IsTrue D.tells → (spot : SpotValue) → slice_get spots.now number ≡ Some spot
             → IfOk result (IsRereadThere (texts D.Disk self.old.journal) spots.now (book_of self.old.held).namespace number spot) }
@@ -234,12 +229,8 @@ impl<D: Disk> Volumes<D> {
         spots: &[Spot],
         number: u32,
     ) -> Result<ReadBack, ReadFault>
-        requires holds { HoldsBook D.Disk told.now.value self.old.journal (book_of self.old.held) }
-        requires measured { IsMeasured self.old.journal (book_of self.old.held) }
+        requires readable { CanReadBy D.Disk told.now.value self.old.journal (book_of self.old.held) spots.now }
         requires below { number < length spots.now }
-        requires spots { AreSpotsOf (book_of self.old.held) spots.now }
-        requires within { IsTrue D.tells → AreWithin (texts D.Disk self.old.journal) spots.now }
-        requires placed { IsTrue told.now.value → ArePlaced (texts D.Disk self.old.journal) (book_of self.old.held) spots.now }
         requires own { (spot : SpotValue) → slice_get spots.now number ≡ Some spot → is_same_form spot.form ≡ false }
         ensures checked { (spot : SpotValue) → slice_get spots.now number ≡ Some spot → IfOk result (IsChecked spot.digest) }
         ensures there { IsTrue D.tells → (spot : SpotValue) → slice_get spots.now number ≡ Some spot

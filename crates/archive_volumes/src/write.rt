@@ -10,6 +10,7 @@ ghost use Rattle.warc_text.specs.Books.{IsGroupText};
 ghost use Rattle.warc_text.specs.Sound.{IsSound};
 ghost use Rattle.warc_text.specs.StandsFor.{commit_byte};
 ghost use Rattle.archive_shelf.specs.Storing.{with_capture};
+ghost use Rattle.archive_volumes.specs.Bringing.{CanReadBy};
 ghost use Rattle.archive_volumes.specs.Held.{book_of, stored_in};
 ghost use Rattle.archive_volumes.specs.Writing.{HasRoomFor, Writes, books_as, end_with, texts_with, with_prepared};
 ghost use Rattle.archive_volumes.specs.Written.{WritesTexts, texts_as};
@@ -93,11 +94,7 @@ impl<D: Disk> Volumes<D> {
         ready: Ready,
     ) -> Result<(), DiskFault>
         requires ready { CanCommit D.Disk told.now.value self.old ready }
-        requires holds { HoldsBook D.Disk told.now.value self.old.journal (book_of self.old.held) }
-        requires measured { IsMeasured self.old.journal (book_of self.old.held) }
-        requires spots { AreSpotsOf (book_of self.old.held) spots.old.items }
-        requires within { IsTrue D.tells → AreWithin (texts D.Disk self.old.journal) spots.old.items }
-        requires placed { IsTrue told.now.value → ArePlaced (texts D.Disk self.old.journal) (book_of self.old.held) spots.old.items }
+        requires readable { CanReadBy D.Disk told.now.value self.old.journal (book_of self.old.held) spots.old.items }
         requires table { table.old.kept ≡ whole_from 0 spots.old.items }
         requires space { vec_len spots.old < vec_capacity spots.old }
         requires reserved { table.old.reserved ≡ Some ready.digest }

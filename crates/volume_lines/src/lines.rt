@@ -1,13 +1,11 @@
 //! The lines of a volume.
 ghost use Rattle.std.specs.Prelude.{◌≡◌, ◌+◌, ◌<◌, ◌≤◌, ◌++◌, ◌∷◌, ◌^◌, [], ℕ, List, IfOk, IfSome, IsSomeAnd, IsTrue, OnOk, length};
 ghost use Rattle.capture.specs.Captures.{first_number};
-ghost use Rattle.warc_journal.specs.Journals.{disk_of, texts};
+ghost use Rattle.warc_journal.specs.Journals.{disk_of};
 ghost use Rattle.warc_text.specs.Books.{IsVolumeText};
 ghost use Rattle.archive_shelf.specs.Answers.{CountsIf};
-ghost use Rattle.archive_volumes.specs.Bringing.{OnlyReads, is_read_fault};
+ghost use Rattle.archive_volumes.specs.Bringing.{CanReadBy, OnlyReads, is_read_fault};
 ghost use Rattle.archive_volumes.specs.Held.{book_of};
-ghost use Rattle.archive_volumes.specs.Spots.{AreSpotsOf, ArePlaced, AreWithin};
-ghost use Rattle.archive_volumes.specs.Volumes.{HoldsBook, IsMeasured};
 ghost use Rattle.checkpoint.specs.Checkpoints.{AreLinesFor};
 ghost use Rattle.checkpoint.specs.OfVolume.{AreLinesOf};
 ghost use Rattle.volume_lines.specs.OfGroups.{CanBeIn, GoesOnBy, IsFactsOf, front_of};
@@ -43,11 +41,7 @@ fn line_at<D: Disk>(
     number: u32,
     at: u64,
 ) -> Result<Option<(Line, u64)>, ReadFault>
-    requires holds { HoldsBook D.Disk told.now.value volumes.old.journal (book_of volumes.old.held) }
-    requires measured { IsMeasured volumes.old.journal (book_of volumes.old.held) }
-    requires spots { AreSpotsOf (book_of volumes.old.held) walk.spots.now }
-    requires within { IsTrue D.tells → AreWithin (texts D.Disk volumes.old.journal) walk.spots.now }
-    requires placed { IsTrue told.now.value → ArePlaced (texts D.Disk volumes.old.journal) (book_of volumes.old.held) walk.spots.now }
+    requires readable { CanReadBy D.Disk told.now.value volumes.old.journal (book_of volumes.old.held) walk.spots.now }
     requires below { number < length walk.spots.now }
     ensures fit { IfOk result (λ found. IfSome found (λ f. CanBeIn walk.entry.volume number f.0)) }
     ensures kept { IfOk result (λ found. IfSome found (λ f. TellsKept walk.entry.spots.now number f.0)) }
@@ -92,11 +86,7 @@ pub fn lines_of<D: Disk>(
     spots: &[Spot],
     volume: VolumeFacts,
 ) -> Result<Option<Vec<Line>>, ReadFault>
-    requires holds { HoldsBook D.Disk told.now.value volumes.old.journal (book_of volumes.old.held) }
-    requires measured { IsMeasured volumes.old.journal (book_of volumes.old.held) }
-    requires spots { AreSpotsOf (book_of volumes.old.held) spots.now }
-    requires within { IsTrue D.tells → AreWithin (texts D.Disk volumes.old.journal) spots.now }
-    requires placed { IsTrue told.now.value → ArePlaced (texts D.Disk volumes.old.journal) (book_of volumes.old.held) spots.now }
+    requires readable { CanReadBy D.Disk told.now.value volumes.old.journal (book_of volumes.old.held) spots.now }
     requires there { IsFactsOf (book_of volumes.old.held) volume }
     requires some { 0 < volume.count }
     requires small { volume.first + volume.count < 2 ^ 32 }

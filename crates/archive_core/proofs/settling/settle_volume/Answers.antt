@@ -21,10 +21,10 @@ returns-in-Ok-Some-clause-keeps g c =
     let mid = c.lines_of.new.volumes in
     let new = record mid { journal = c.supply.new.journal } in
     keeps_then g.D.Disk (disk_laws g) c.args.told.now.value c.args.volumes.now mid new
-    (keeps_reads g.D.Disk (disk_laws g) c.args.told.now.value c.args.volumes.now mid reads c.requires.holds)
+    (keeps_reads g.D.Disk (disk_laws g) c.args.told.now.value c.args.volumes.now mid reads c.requires.readable.holds)
     (keeps_beside g.D.Disk (disk_laws g) c.args.told.now.value mid new refl c.supply.ensures.extent
     (λ tells. warc_supplied g.D.Disk c.args.facts.volume c.as_slice.result.now (disk_of mid.journal) (disk_of new.journal) c.supply.result (c.supply.ensures.supplies tells))
-    (reads.holds c.args.told.now.value c.requires.holds))
+    (reads.holds c.args.told.now.value c.requires.readable.holds))
 
 pub returns-in-Ok-Some-clause-went : goal.returns-in-Ok-Some-clause-went
 returns-in-Ok-Some-clause-went g c = λ tells from n went.
@@ -61,8 +61,8 @@ returns-in-Err-clause-went g c = λ tells from n went.
 
 pub returns-in-Ok-None-clause-keeps : goal.returns-in-Ok-None-clause-keeps
 returns-in-Ok-None-clause-keeps g c =
-    keeps_reads g.D.Disk (disk_laws g) c.args.told.now.value c.args.volumes.now c.lines_of.new.volumes c.in-Ok-None.ensures.reads c.requires.holds
+    keeps_reads g.D.Disk (disk_laws g) c.args.told.now.value c.args.volumes.now c.lines_of.new.volumes c.in-Ok-None.ensures.reads c.requires.readable.holds
 
 pub returns-in-Err-clause-keeps : goal.returns-in-Err-clause-keeps
 returns-in-Err-clause-keeps g c =
-    keeps_reads g.D.Disk (disk_laws g) c.args.told.now.value c.args.volumes.now c.lines_of.new.volumes c.in-Err.ensures.reads c.requires.holds
+    keeps_reads g.D.Disk (disk_laws g) c.args.told.now.value c.args.volumes.now c.lines_of.new.volumes c.in-Err.ensures.reads c.requires.readable.holds

@@ -5,7 +5,7 @@ use Rattle.checkpoint.specs.declared.fault.CheckpointFault.{CheckpointFault}
 use Rattle.warc_journal.specs.Journals.{disk_of, texts}
 use Rattle.archive_volumes.proofs.ChangeLaws.{DiskLaws}
 use Rattle.archive_volumes.specs.Held.{book_of}
-use Rattle.archive_volumes.specs.Spots.{AreSpotsOf, ArePlaced, AreWithin}
+use Rattle.archive_volumes.specs.Spots.{ArePlaced, AreSpotsOf, AreWithin}
 use Rattle.archive_volumes.specs.declared.held.Held.{Held}
 use Rattle.archive_volumes.specs.declared.volume_facts.VolumeFacts.{VolumeFacts}
 use Rattle.archive_core.specs.steps.Supplying.{GoesThrough, KnowsMore, shelved_as}
@@ -22,58 +22,49 @@ disk_laws g = record { earlier = g.met.D.Disk.earlier; now_counts = g.met.D.Disk
 
 pub facts-requires-clause-volumes : goal.facts-requires-clause-volumes
 facts-requires-clause-volumes g c =
-    few_volumes c.args.volumes.now.journal (book_of c.args.volumes.now.held) c.requires.measured (omega (arith, c.requires.spots.count, c.requires.few))
+    few_volumes c.args.volumes.now.journal (book_of c.args.volumes.now.held) c.requires.readable.measured (omega (arith, c.requires.readable.are.count, c.requires.few))
 
-pub settle_volume-requires-clause-holds : goal.settle_volume-requires-clause-holds
-settle_volume-requires-clause-holds g c = c.volumes.invariant.keeps.holds
-
-pub settle_volume-requires-clause-measured : goal.settle_volume-requires-clause-measured
-settle_volume-requires-clause-measured g c =
-    measured_kept g.D.Disk (disk_laws g) c.args.told.now.value c.args.volumes.now c.volumes.volumes c.volumes.invariant.keeps c.requires.measured
-
-pub settle_volume-requires-clause-spots : goal.settle_volume-requires-clause-spots
-settle_volume-requires-clause-spots g c =
-    subst (λ (h : Held). AreSpotsOf (book_of h) c.args.spots.now) (sym c.volumes.invariant.keeps.held) c.requires.spots
-
-pub settle_volume-requires-clause-within : goal.settle_volume-requires-clause-within
-settle_volume-requires-clause-within g c tells =
-    subst (λ (all : List (List ℕ)). AreWithin all c.args.spots.now)
-    (sym (texts_kept g.D.Disk (disk_laws g) c.args.told.now.value c.args.volumes.now c.volumes.volumes c.volumes.invariant.keeps tells)) (c.requires.within tells)
-
-pub settle_volume-requires-clause-placed : goal.settle_volume-requires-clause-placed
-settle_volume-requires-clause-placed g c told =
+pub settle_volume-requires-clause-readable : goal.settle_volume-requires-clause-readable
+settle_volume-requires-clause-readable g c =
     let keeps = c.volumes.invariant.keeps in
-    subst (λ (h : Held). ArePlaced (texts g.D.Disk c.volumes.volumes.journal) (book_of h) c.args.spots.now) (sym keeps.held)
-    (subst (λ (all : List (List ℕ)). ArePlaced all (book_of c.args.volumes.now.held) c.args.spots.now)
-    (sym (texts_kept g.D.Disk (disk_laws g) c.args.told.now.value c.args.volumes.now c.volumes.volumes keeps (c.requires.holds.tells told)))
-    (c.requires.placed told))
+    record {
+      holds = keeps.holds;
+      measured = measured_kept g.D.Disk (disk_laws g) c.args.told.now.value c.args.volumes.now c.volumes.volumes keeps c.requires.readable.measured;
+      are = subst (λ (h : Held). AreSpotsOf (book_of h) c.args.spots.now) (sym keeps.held) c.requires.readable.are;
+      within = λ tells. subst (λ (all : List (List ℕ)). AreWithin all c.args.spots.now)
+          (sym (texts_kept g.D.Disk (disk_laws g) c.args.told.now.value c.args.volumes.now c.volumes.volumes keeps tells)) (c.requires.readable.within tells);
+      placed = λ told. subst (λ (h : Held). ArePlaced (texts g.D.Disk c.volumes.volumes.journal) (book_of h) c.args.spots.now) (sym keeps.held)
+          (subst (λ (all : List (List ℕ)). ArePlaced all (book_of c.args.volumes.now.held) c.args.spots.now)
+          (sym (texts_kept g.D.Disk (disk_laws g) c.args.told.now.value c.args.volumes.now c.volumes.volumes keeps (c.requires.readable.holds.tells told)))
+          (c.requires.readable.placed told));
+    }
 
 pub settle_volume-requires-clause-there : goal.settle_volume-requires-clause-there
 settle_volume-requires-clause-there g c =
     let test : c.volumes.settled + 1 < length c.in_ok-facts.facts.items = omega (arith, c.volumes-test.true, c.len.ensures, c.in_ok-facts.facts.ok.0) in
     (found_fact (book_of c.args.volumes.now.held) (book_of c.volumes.volumes.held) (ap book_of c.volumes.invariant.keeps.held) c.in_ok-facts.facts.items
-    c.volumes.settled c.index.result.now c.in_ok-facts.ensures c.index.ensures c.requires.measured.filled test).of
+    c.volumes.settled c.index.result.now c.in_ok-facts.ensures c.index.ensures c.requires.readable.measured.filled test).of
 
 pub settle_volume-requires-clause-some : goal.settle_volume-requires-clause-some
 settle_volume-requires-clause-some g c =
     let test : c.volumes.settled + 1 < length c.in_ok-facts.facts.items = omega (arith, c.volumes-test.true, c.len.ensures, c.in_ok-facts.facts.ok.0) in
     (found_fact (book_of c.args.volumes.now.held) (book_of c.volumes.volumes.held) (ap book_of c.volumes.invariant.keeps.held) c.in_ok-facts.facts.items
-    c.volumes.settled c.index.result.now c.in_ok-facts.ensures c.index.ensures c.requires.measured.filled test).some
+    c.volumes.settled c.index.result.now c.in_ok-facts.ensures c.index.ensures c.requires.readable.measured.filled test).some
 
 pub settle_volume-requires-clause-small : goal.settle_volume-requires-clause-small
 settle_volume-requires-clause-small g c =
     let test : c.volumes.settled + 1 < length c.in_ok-facts.facts.items = omega (arith, c.volumes-test.true, c.len.ensures, c.in_ok-facts.facts.ok.0) in
     let same = ap book_of c.volumes.invariant.keeps.held in
     let small = (found_fact (book_of c.args.volumes.now.held) (book_of c.volumes.volumes.held) same c.in_ok-facts.facts.items
-    c.volumes.settled c.index.result.now c.in_ok-facts.ensures c.index.ensures c.requires.measured.filled test).small in
-    omega (arith, small, ap (λ (b : Book). length (captures b)) same, c.requires.spots.count, c.requires.few)
+    c.volumes.settled c.index.result.now c.in_ok-facts.ensures c.index.ensures c.requires.readable.measured.filled test).small in
+    omega (arith, small, ap (λ (b : Book). length (captures b)) same, c.requires.readable.are.count, c.requires.few)
 
 pub settle_volume-requires-clause-sealed : goal.settle_volume-requires-clause-sealed
 settle_volume-requires-clause-sealed g c =
     let test : c.volumes.settled + 1 < length c.in_ok-facts.facts.items = omega (arith, c.volumes-test.true, c.len.ensures, c.in_ok-facts.facts.ok.0) in
     let same = ap book_of c.volumes.invariant.keeps.held in
     let number = (found_fact (book_of c.args.volumes.now.held) (book_of c.volumes.volumes.held) same c.in_ok-facts.facts.items
-    c.volumes.settled c.index.result.now c.in_ok-facts.ensures c.index.ensures c.requires.measured.filled test).volume_is in
+    c.volumes.settled c.index.result.now c.in_ok-facts.ensures c.index.ensures c.requires.readable.measured.filled test).volume_is in
     let many : length c.in_ok-facts.facts.items ≡ length (book_of c.args.volumes.now.held).volumes =
     ap (λ (l : List VolumeFacts). length l) c.in_ok-facts.ensures ∙ many_facts (book_of c.args.volumes.now.held).volumes 0 0 in
     omega (arith, test, number, many, ap (λ (b : Book). length b.volumes) same)
@@ -89,7 +80,7 @@ returns-in_err-wrote-clause-went g c = λ tells.
     let book = book_of c.args.volumes.now.held in
     let same = ap book_of c.volumes.invariant.keeps.held in
     let number = (found_fact book (book_of c.volumes.volumes.held) same c.in_ok-facts.facts.items
-    c.volumes.settled c.index.result.now c.in_ok-facts.ensures c.index.ensures c.requires.measured.filled test).volume_is in
+    c.volumes.settled c.index.result.now c.in_ok-facts.ensures c.index.ensures c.requires.readable.measured.filled test).volume_is in
     at_exit (λ (r : Result ℕ CheckpointFault). GoesThrough g.D.Disk (shelved_as c.args.told.now.value book c.args.spots.now) c.volumes.settled (disk_of c.args.volumes.now.journal) (disk_of c.settle_volume.new.volumes.journal) r)
     _ c.from_residual-in_err-wrote.result c.from_residual-in_err-wrote.ensures.1
     (goes_no_further g.D.Disk c.args.told.now.value book (book_of c.volumes.volumes.held) same c.args.spots.now c.volumes.settled c.volumes.written c.index.result.now.volume number
@@ -100,7 +91,7 @@ pub overflow_add-written : goal.overflow_add-written
 overflow_add-written g c =
     let many : length c.in_ok-facts.facts.items ≡ length (book_of c.args.volumes.now.held).volumes =
     ap (λ (l : List VolumeFacts). length l) c.in_ok-facts.ensures ∙ many_facts (book_of c.args.volumes.now.held).volumes 0 0 in
-    let few = few_volumes c.args.volumes.now.journal (book_of c.args.volumes.now.held) c.requires.measured (omega (arith, c.requires.spots.count, c.requires.few)) in
+    let few = few_volumes c.args.volumes.now.journal (book_of c.args.volumes.now.held) c.requires.readable.measured (omega (arith, c.requires.readable.are.count, c.requires.few)) in
     omega (
       arith,
       c.volumes.invariant.few,
@@ -119,7 +110,7 @@ volumes-preserved g c =
     let book = book_of c.args.volumes.now.held in
     let same = ap book_of c.volumes.invariant.keeps.held in
     let number = (found_fact book (book_of c.volumes.volumes.held) same c.in_ok-facts.facts.items
-    c.volumes.settled c.index.result.now c.in_ok-facts.ensures c.index.ensures c.requires.measured.filled test).volume_is in
+    c.volumes.settled c.index.result.now c.in_ok-facts.ensures c.index.ensures c.requires.readable.measured.filled test).volume_is in
     record {
       keeps = keeps_then g.D.Disk (disk_laws g) c.args.told.now.value c.args.volumes.now c.volumes.volumes c.settle_volume.new.volumes
           c.volumes.invariant.keeps c.in_ok-wrote.ensures.keeps;
@@ -135,7 +126,7 @@ volumes-preserved g c =
 
 pub volumes-init : goal.volumes-init
 volumes-init g c = record {
-  keeps = keeps_itself g.D.Disk (disk_laws g) c.args.told.now.value c.args.volumes.now c.requires.holds;
+  keeps = keeps_itself g.D.Disk (disk_laws g) c.args.told.now.value c.args.volumes.now c.requires.readable.holds;
   went = λ tells. went_none g.D.Disk (disk_laws g) tells (shelved_as c.args.told.now.value (book_of c.args.volumes.now.held) c.args.spots.now) c.args.settled.now (disk_of c.args.volumes.now.journal)
       (g.met.D.Disk.reading_is_image (disk_of c.args.volumes.now.journal) tells) c.requires.first;
   faults = refl;
@@ -156,7 +147,7 @@ pub overflow_add-settled-in-volumes : goal.overflow_add-settled-in-volumes
 overflow_add-settled-in-volumes g c =
     let all : length c.in_ok-facts.facts.items ≡ length (book_of c.args.volumes.now.held).volumes =
     ap (λ (l : List VolumeFacts). length l) c.in_ok-facts.ensures ∙ many_facts (book_of c.args.volumes.now.held).volumes 0 0 in
-    let few = few_volumes c.args.volumes.now.journal (book_of c.args.volumes.now.held) c.requires.measured (omega (arith, c.requires.spots.count, c.requires.few)) in
+    let few = few_volumes c.args.volumes.now.journal (book_of c.args.volumes.now.held) c.requires.readable.measured (omega (arith, c.requires.readable.are.count, c.requires.few)) in
     omega (arith, c.volumes.invariant.within, all, few, c.volumes-test.true, c.len.ensures, c.in_ok-facts.facts.ok.0)
 
 pub returns-clause-knows : goal.returns-clause-knows

@@ -2,12 +2,16 @@ use Rattle.std.proofs.Common.{Bool, false, true, Ok, ap, arith, get_or, length, 
 use Rattle.std.proofs.lemmas.Option.{slice_get_within}
 use Rattle.capture.specs.Captures.{captures}
 use Rattle.capture.specs.declared.book.Book.{Book}
-use Rattle.archive_volumes.proofs.BringLaws.{reads_then}
+use Rattle.archive_volumes.proofs.BringLaws.{readable_on, reads_then}
 use Rattle.archive_volumes.specs.Held.{book_of}
 use Rattle.archive_opening.specs.Revisits.{IsOriginalOf}
 use Rattle.archive_pieces.specs.PieceOriginals.{AsksOriginal}
 use Rattle.archive_pieces.proofs.PieceOriginalLaws.{fault_exit, found_by, none_more}
 use Rattle.archive_pieces.proofs.original.first_original.Goals as goal
+
+pub is_original-requires-clause-readable : goal.is_original-requires-clause-readable
+is_original-requires-clause-readable g c =
+    readable_on g.D.Disk c.args.told.now.value c.args.volumes.now c.loop-candidate.volumes c.loop-candidate.invariant.reads c.args.spots.now c.requires.readable
 
 pub is_original-requires-clause-digest : goal.is_original-requires-clause-digest
 is_original-requires-clause-digest g c spot at =
@@ -21,7 +25,7 @@ returns-in_err-is-clause-chooses g c =
     let whole = c.requires.whole k c.loop-candidate-test.true in
     fault_exit c.args.told.now.value book (book_of c.loop-candidate.volumes.held) c.args.group.now c.args.candidates.now number
     (ap book_of c.loop-candidate.invariant.reads.held)
-    (omega (arith, slice_get_within c.args.spots.now number whole.spot whole.placed, c.requires.spots.count))
+    (omega (arith, slice_get_within c.args.spots.now number whole.spot whole.placed, c.requires.readable.are.count))
     c.in_err-is.field-0.0 c.from_residual.result c.from_residual.ensures.1 c.in_err-is.ensures.asks
 
 pub returns-in_err-is-clause-reads : goal.returns-in_err-is-clause-reads
@@ -33,7 +37,7 @@ returns-then-is-clause-chooses g c =
     let k = c.loop-candidate.candidate-index in
     let number = get_or c.args.candidates.now k 0 in
     let told = c.args.told.now.value in
-    found_by told (book_of c.args.volumes.now.held) c.args.spots.now c.args.group.now number c.requires.spots c.requires.made
+    found_by told (book_of c.args.volumes.now.held) c.args.spots.now c.args.group.now number c.requires.readable.are c.requires.made
     (c.requires.whole k c.loop-candidate-test.true)
     (subst (λ (b : Book). AsksOriginal told b c.args.group.now number (Ok true)) (ap book_of c.loop-candidate.invariant.reads.held)
     (subst (λ (b : Bool). AsksOriginal told (book_of c.loop-candidate.volumes.held) c.args.group.now number (Ok b)) c.if-is.true c.in_ok-is.ensures.asks))

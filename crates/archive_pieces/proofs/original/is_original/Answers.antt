@@ -13,7 +13,7 @@ returns-then-not-is_named-clause-asks g c told of =
     let at = slice_get-get_or c.args.spots.now c.args.number spot c.requires.below ∙ ap (λ (s : Spot). Some s) (sym c.index-spots-number.is) in
     c.is_named.ensures.missed c.if-not-is_named.true
     (original_named (book_of c.args.volumes.now.held) c.requires.group.text c.args.group.now c.requires.group.is c.args.same.now c.requires.same c.args.number
-    c.args.spots.now spot at c.requires.spots of)
+    c.args.spots.now spot at c.requires.readable.are of)
 
 pub returns-in_ok-does-in-Some-clause-asks : goal.returns-in_ok-does-in-Some-clause-asks
 returns-in_ok-does-in-Some-clause-asks g c =
@@ -22,7 +22,7 @@ returns-in_ok-does-in-Some-clause-asks g c =
     let spot = c.index-spots-number.result in
     let at = slice_get-get_or c.args.spots.now c.args.number spot c.requires.below ∙ ap (λ (s : Spot). Some s) (sym c.index-spots-number.is) in
     answers_by book c.requires.group.text c.args.group.now c.requires.group.is c.args.same.now c.requires.same c.args.number
-    c.args.spots.now spot at c.requires.spots told (texts g.D.Disk c.args.volumes.now.journal) (λ so. (c.requires.placed so).each c.args.number spot at)
+    c.args.spots.now spot at c.requires.readable.are told (texts g.D.Disk c.args.volumes.now.journal) (λ so. (c.requires.readable.placed so).each c.args.number spot at)
     (c.requires.digest spot at) (c.is_named.ensures.met c.if-not-is_named.false) c.in-Some.len
     (subst (λ found. AsksLength told book c.args.number (Ok found)) c.in-Some.is c.in_ok-len.ensures.asks)
     c.in_ok-does-in-Some.does c.in_ok-does-in-Some.ensures

@@ -24,6 +24,6 @@ returns-in-None-clause-finds g c told =
     let book = book_of c.args.volumes.now.held in
     let group = c.args.group.now in
     let candidates = c.candidates-candidates.result.now in
-    none_at_all book c.args.spots.now (texts g.D.Disk c.args.volumes.now.journal) group c.in-Some.same candidates c.in-Some.is c.requires.spots
-    (c.requires.placed told) (c.candidates-candidates.ensures.numbers ∙ ap (numbers_of group.digest) c.requires.table)
+    none_at_all book c.args.spots.now (texts g.D.Disk c.args.volumes.now.journal) group c.in-Some.same candidates c.in-Some.is c.requires.readable.are
+    (c.requires.readable.placed told) (c.candidates-candidates.ensures.numbers ∙ ap (numbers_of group.digest) c.requires.table)
     (subst (λ found. ChoosesOriginal c.args.told.now.value book group candidates (Ok found)) c.in-None.is c.in_ok-first.ensures.chooses told)

@@ -11,6 +11,6 @@ returns-clause-asks g c =
     let number = c.args.number in
     let spot = get_or spots number c.index-spots-number.result in
     asks_by c.args.told.now.value (book_of c.args.volumes.now.held) number (texts g.D.Disk c.args.volumes.now.journal) spot
-    c.requires.holds.sound
-    (λ told. (c.requires.placed told).each number spot (slice_get-get_or spots number c.index-spots-number.result c.requires.below))
+    c.requires.readable.holds.sound
+    (λ told. (c.requires.readable.placed told).each number spot (slice_get-get_or spots number c.index-spots-number.result c.requires.below))
     c.in_ok-read.read c.len_in.result c.in_ok-read.ensures.some c.in_ok-read.ensures.exact c.len_in.ensures

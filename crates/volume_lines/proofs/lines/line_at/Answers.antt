@@ -29,11 +29,11 @@ returns-in-Some-clause-exact g c = λ tells place text is number_is within here 
     let line = rw c.in-Some.is at (c.in_ok-line.ensures.line _ c.args.number c.in-Right.bytes group.group group.is group.told) in
     let book : Book = book_of c.args.volumes.now.held in
     let goes : GoesOnBy is place c.in-Some.line (c.args.at + c.in-Right.outline.len) =
-    goes_on is (c.requires.holds.sound tells) place c.args.at c.args.number within number_is here c.in-Right.bytes own.is group.group group.is
+    goes_on is (c.requires.readable.holds.sound tells) place c.args.at c.args.number within number_is here c.in-Right.bytes own.is group.group group.is
     c.in-Some.line line c.in-Right.outline.len group.told.len_is in
     let spot = spot_there c.args.walk.spots.now c.args.number c.requires.below in
-    let told = line_tells book (texts g.D.Disk c.args.volumes.now.journal) c.args.number spot.0 c.in-Some.line (c.requires.spots.each c.args.number spot.0 spot.1)
-    ((c.requires.placed tells).each c.args.number spot.0 spot.1)
+    let told = line_tells book (texts g.D.Disk c.args.volumes.now.journal) c.args.number spot.0 c.in-Some.line (c.requires.readable.are.each c.args.number spot.0 spot.1)
+    ((c.requires.readable.placed tells).each c.args.number spot.0 spot.1)
     (subst (λ (n : ℕ). IsLineOf book n c.in-Some.line) (sym number_is) goes.line_is) in
     subst (λ found. IsSomeAnd found (λ f. GoesOnBy is place f.0 f.1)) (sym (c.if_kept.ensures.same spot.0 spot.1 told)) goes
 

@@ -1,16 +1,20 @@
 use Rattle.std.proofs.Common.{◌-◌, ◌≤◌, ℕ, List, length, ◌∙◌, subst, arith}
 use Rattle.cdxj_line.specs.declared.line.Line.{Line}
 use Rattle.warc_journal.specs.Journals.{texts}
-use Rattle.archive_volumes.proofs.BringLaws.{reads_then}
+use Rattle.archive_volumes.proofs.BringLaws.{readable_on, reads_then}
 use Rattle.archive_volumes.specs.Held.{book_of}
 use Rattle.archive_volumes.specs.Spots.{text_at}
 use Rattle.volume_lines.proofs.WalkLaws.{all_of, facts_within, goes_from, kept_next, lines_fit, lines_of_spots, lines_of_volume, numbered, text_of, told_next, walked_next}
 use Rattle.volume_lines.specs.OfSpots.{AreLinesOfSpots}
 use Rattle.volume_lines.proofs.lines.lines_of.Goals as goal
 
+pub line_at-requires-clause-readable : goal.line_at-requires-clause-readable
+line_at-requires-clause-readable g c =
+    readable_on g.D.Disk c.args.told.now.value c.args.volumes.now c.captures-2.volumes c.captures-2.invariant.reads c.args.spots.now c.requires.readable
+
 pub line_at-requires-clause-below : goal.line_at-requires-clause-below
 line_at-requires-clause-below g c =
-    omega (arith, facts_within (book_of c.args.volumes.now.held) c.args.volume c.requires.there, c.captures-test.true, c.requires.spots.count)
+    omega (arith, facts_within (book_of c.args.volumes.now.held) c.args.volume c.requires.there, c.captures-test.true, c.requires.readable.are.count)
 
 pub returns-in_err-line-clause-reads : goal.returns-in_err-line-clause-reads
 returns-in_err-line-clause-reads g c =
@@ -28,8 +32,8 @@ pub returns-in_default-clause-exact : goal.returns-in_default-clause-exact
 returns-in_default-clause-exact g c = λ tells.
     let inv = c.captures-2.invariant in
     let text : List ℕ = text_at (texts g.D.Disk c.args.volumes.now.journal) c.args.volume.volume in
-    let is = text_of (book_of c.args.volumes.now.held) (texts g.D.Disk c.args.volumes.now.journal) (c.requires.holds.texts_are tells) c.args.volume c.requires.there in
-    let ends : length text ≤ c.in_ok-text_len.field-0 = omega (arith, c.in_ok-text_len.ensures.len (c.requires.holds.tells tells)) in
+    let is = text_of (book_of c.args.volumes.now.held) (texts g.D.Disk c.args.volumes.now.journal) (c.requires.readable.holds.texts_are tells) c.args.volume c.requires.there in
+    let ends : length text ≤ c.in_ok-text_len.field-0 = omega (arith, c.in_ok-text_len.ensures.len (c.requires.readable.holds.tells tells)) in
     rw c.in_default.is at (goes_from (λ f. f.0) (λ f. f.1) c.args.volumes.now.held c.captures-2.volumes.held inv.reads.held c.args.volume c.requires.there
     c.in_ok-text_len.field-0 c.captures-2.number c.captures-2.at c.in_ok-line.field-0 (c.in_ok-line.ensures.exact tells) text is ends inv.from
     c.captures-test.true (inv.told tells text is ends).here)
@@ -82,8 +86,8 @@ returns-clause-exact g c = λ tells.
     let inv = c.captures-2.invariant in
     let facts = c.args.volume in
     let text : List ℕ = text_at (texts g.D.Disk c.args.volumes.now.journal) facts.volume in
-    let is = text_of (book_of c.args.volumes.now.held) (texts g.D.Disk c.args.volumes.now.journal) (c.requires.holds.texts_are tells) facts c.requires.there in
-    let ends : length text ≤ c.in_ok-text_len.field-0 = omega (arith, c.in_ok-text_len.ensures.len (c.requires.holds.tells tells)) in
+    let is = text_of (book_of c.args.volumes.now.held) (texts g.D.Disk c.args.volumes.now.journal) (c.requires.readable.holds.texts_are tells) facts c.requires.there in
+    let ends : length text ≤ c.in_ok-text_len.field-0 = omega (arith, c.in_ok-text_len.ensures.len (c.requires.readable.holds.tells tells)) in
     lines_of_volume facts.volume facts.first c.captures-2.lines.items c.sort_lines.new.lines.items (c.captures-2.number - facts.first) inv.walked
     c.sort_lines.ensures.same c.sort_lines.ensures.in_order is c.captures-2.at (inv.told tells text is ends) c.requires.there.first
     (all_of (book_of c.args.volumes.now.held) facts c.requires.there c.captures-2.number c.captures-test.false inv.to text is)

@@ -4,11 +4,10 @@ use Rattle.capture.specs.Captures.{captures}
 use Rattle.capture.specs.declared.book.Book.{Book}
 use Rattle.archive_shelf.specs.Answers.{NamesKeeper}
 use Rattle.archive_shelf.specs.Digests.{GoesByDigest}
-use Rattle.archive_volumes.specs.Bringing.{BringsFrom}
+use Rattle.archive_volumes.specs.Bringing.{BringsFrom, CanReadBy}
 use Rattle.archive_volumes.specs.Digests.{GoesByKept}
 use Rattle.archive_volumes.specs.Held.{book_of}
-use Rattle.warc_journal.specs.Journals.{texts}
-use Rattle.archive_volumes.specs.Spots.{ArePlaced, AreWithin, whole_from}
+use Rattle.archive_volumes.specs.Spots.{whole_from}
 use Rattle.archive_volumes.specs.declared.spot.Spot.{Spot}
 use Rattle.archive_core.specs.Bringing.{BringsAsThere}
 use Rattle.archive_core.specs.Holdings.{Holdings, IsArchive}
@@ -32,19 +31,10 @@ returns-then-number-count-clause-brings g c =
     let above : length (captures c.args.self.now.book) ≤ c.args.number = omega (arith, count, c.if-number-count.true) in
     (count, c.if-number-count.true, laws.none_shown g.D.Disk c.args.self.now c.args.number is above)
 
-pub bring-requires-clause-holds : goal.bring-requires-clause-holds
-bring-requires-clause-holds g c =
-    c.self.invariant.holds
-
-pub bring-requires-clause-placed : goal.bring-requires-clause-placed
-bring-requires-clause-placed g c told =
-    subst (ArePlaced (texts g.D.Disk c.self.inside.volumes.journal) (book_of c.self.inside.volumes.held)) (sym c.as_slice.ensures.value)
-    (c.self.invariant.placed told)
-
-pub bring-requires-clause-within : goal.bring-requires-clause-within
-bring-requires-clause-within g c told =
-    subst (AreWithin (texts g.D.Disk c.self.inside.volumes.journal)) (sym c.as_slice.ensures.value)
-    (c.self.invariant.within told)
+pub bring-requires-clause-readable : goal.bring-requires-clause-readable
+bring-requires-clause-readable g c =
+    subst (CanReadBy g.D.Disk c.self.inside.told.value c.self.inside.volumes.journal (book_of c.self.inside.volumes.held)) (sym c.as_slice.ensures.value)
+    (laws.readable g.D.Disk c.self.invariant)
 
 pub bring-requires-clause-table : goal.bring-requires-clause-table
 bring-requires-clause-table g c =

@@ -9,28 +9,20 @@ use Rattle.archive_volumes.specs.Choosing.{IsKeptWith, LooksOn}
 use Rattle.archive_volumes.specs.Rereading.{IsChosenThere}
 use Rattle.archive_volumes.specs.declared.spot.Spot.{Spot}
 use Rattle.archive_volumes.specs.Held.{book_of}
-use Rattle.archive_volumes.specs.Spots.{AreHeldWhole, ArePlaced, AreWithin, whole_from}
+use Rattle.archive_volumes.specs.Spots.{AreHeldWhole, whole_from}
 use Rattle.warc_journal.specs.Journals.{texts}
 use Rattle.archive_core.specs.Holdings.{Holdings}
 use Rattle.archive_core.specs.Looking.{IsFoundThere, OnlyLooks}
 use Rattle.archive_core.specs.View.{holdings_of}
 use Rattle.archive_core.proofs.ReadLaws as laws
 use Rattle.archive_core.proofs.ThereLaws.{found_there}
+use Rattle.archive_volumes.specs.Bringing.{CanReadBy}
 use Rattle.archive_core.proofs.archive.Archive.look_on.Goals as goal
 
-pub look_on_wire-requires-clause-holds : goal.look_on_wire-requires-clause-holds
-look_on_wire-requires-clause-holds g c =
-    c.self.invariant.holds
-
-pub look_on_wire-requires-clause-placed : goal.look_on_wire-requires-clause-placed
-look_on_wire-requires-clause-placed g c told =
-    subst (ArePlaced (texts g.D.Disk c.self.inside.volumes.journal) (book_of c.self.inside.volumes.held)) (sym c.as_slice.ensures.value)
-    (c.self.invariant.placed told)
-
-pub look_on_wire-requires-clause-within : goal.look_on_wire-requires-clause-within
-look_on_wire-requires-clause-within g c told =
-    subst (AreWithin (texts g.D.Disk c.self.inside.volumes.journal)) (sym c.as_slice.ensures.value)
-    (c.self.invariant.within told)
+pub look_on_wire-requires-clause-readable : goal.look_on_wire-requires-clause-readable
+look_on_wire-requires-clause-readable g c =
+    subst (CanReadBy g.D.Disk c.self.inside.told.value c.self.inside.volumes.journal (book_of c.self.inside.volumes.held)) (sym c.as_slice.ensures.value)
+    (laws.readable g.D.Disk c.self.invariant)
 
 pub look_on_wire-requires-clause-made : goal.look_on_wire-requires-clause-made
 look_on_wire-requires-clause-made g c untold =

@@ -1,9 +1,9 @@
 use Rattle.std.proofs.Common.{ℕ, List, inl, refl, sym, ap, subst, ◌∙◌}
 use Rattle.capture.specs.declared.book.Book.{Book}
-use Rattle.warc_journal.specs.Journals.{last_len, texts}
+use Rattle.warc_journal.specs.Journals.{last_len}
 use Rattle.archive_volumes.proofs.ChangeLaws.{DiskLaws}
 use Rattle.archive_volumes.specs.Held.{book_of}
-use Rattle.archive_volumes.specs.Spots.{AreHeldWhole, ArePlaced, AreWithin, whole_from}
+use Rattle.archive_volumes.specs.Spots.{AreHeldWhole, whole_from}
 use Rattle.archive_volumes.specs.declared.spot.Spot.{Spot}
 use Rattle.archive_core.specs.Holdings.{Holdings, IsArchive}
 use Rattle.archive_core.specs.Looking.{OnlyLooks}
@@ -13,6 +13,7 @@ use Rattle.archive_core.specs.View.{holdings_of}
 use Rattle.archive_core.proofs.PieceTakenLaws.{finds_within}
 use Rattle.archive_core.proofs.ReadLaws as laws
 use Rattle.archive_core.proofs.archive.Archive.original_in.Given.{Over}
+use Rattle.archive_volumes.specs.Bringing.{CanReadBy}
 use Rattle.archive_core.proofs.archive.Archive.original_in.Goals as goal
 
 -- what is asked of the disk
@@ -32,17 +33,10 @@ returns-then-passes_bounds-clause-looks g c = laws.looks_itself g.D.Disk (disk_l
 pub returns-then-passes_bounds-clause-was : goal.returns-then-passes_bounds-clause-was
 returns-then-passes_bounds-clause-was g c = subst (λ (held : Holdings _). IsArchive g.D.Disk held) c.self.view_is c.self.invariant
 
-pub original_of-requires-clause-holds : goal.original_of-requires-clause-holds
-original_of-requires-clause-holds g c = c.self.invariant.holds
-
-pub original_of-requires-clause-placed : goal.original_of-requires-clause-placed
-original_of-requires-clause-placed g c told =
-    subst (ArePlaced (texts g.D.Disk c.self.inside.volumes.journal) (book_of c.self.inside.volumes.held)) (sym c.as_slice.ensures.value)
-    (c.self.invariant.placed told)
-
-pub original_of-requires-clause-within : goal.original_of-requires-clause-within
-original_of-requires-clause-within g c told =
-    subst (AreWithin (texts g.D.Disk c.self.inside.volumes.journal)) (sym c.as_slice.ensures.value) (c.self.invariant.within told)
+pub original_of-requires-clause-readable : goal.original_of-requires-clause-readable
+original_of-requires-clause-readable g c =
+    subst (CanReadBy g.D.Disk c.self.inside.told.value c.self.inside.volumes.journal (book_of c.self.inside.volumes.held)) (sym c.as_slice.ensures.value)
+    (laws.readable g.D.Disk c.self.invariant)
 
 pub original_of-requires-clause-made : goal.original_of-requires-clause-made
 original_of-requires-clause-made g c untold =

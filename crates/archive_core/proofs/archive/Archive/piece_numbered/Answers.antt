@@ -5,8 +5,6 @@ use Rattle.capture.specs.declared.book.Book.{Book}
 use Rattle.archive_shelf.specs.Digests.{PieceGoesByDigest}
 use Rattle.archive_volumes.specs.Held.{book_of}
 use Rattle.archive_volumes.specs.KeptGroups.{GivesPieceFrom, PieceGoesByKept}
-use Rattle.warc_journal.specs.Journals.{texts}
-use Rattle.archive_volumes.specs.Spots.{ArePlaced, AreWithin}
 use Rattle.archive_volumes.specs.declared.spot.Spot.{Spot}
 use Rattle.archive_core.specs.Bringing.{PieceTellsKept}
 use Rattle.archive_core.specs.Holdings.{Holdings, IsArchive}
@@ -16,6 +14,7 @@ use Rattle.archive_core.proofs.PieceLaws.{gives_by}
 use Rattle.archive_core.proofs.ReadLaws as laws
 use Rattle.archive_volumes.proofs.ChangeLaws.{DiskLaws}
 use Rattle.archive_core.proofs.archive.Archive.piece_numbered.Given.{Over}
+use Rattle.archive_volumes.specs.Bringing.{CanReadBy}
 use Rattle.archive_core.proofs.archive.Archive.piece_numbered.Goals as goal
 
 -- what is asked of the disk
@@ -31,19 +30,10 @@ returns-then-number-count-clause-gives g c =
     let above : length (captures c.args.self.now.book) ≤ c.args.number = omega (arith, count, c.if-number-count.true) in
     (count, c.if-number-count.true, laws.none_shown g.D.Disk c.args.self.now c.args.number is above)
 
-pub piece-requires-clause-holds : goal.piece-requires-clause-holds
-piece-requires-clause-holds g c =
-    c.self.invariant.holds
-
-pub piece-requires-clause-placed : goal.piece-requires-clause-placed
-piece-requires-clause-placed g c told =
-    subst (ArePlaced (texts g.D.Disk c.self.inside.volumes.journal) (book_of c.self.inside.volumes.held)) (sym c.as_slice.ensures.value)
-    (c.self.invariant.placed told)
-
-pub piece-requires-clause-within : goal.piece-requires-clause-within
-piece-requires-clause-within g c told =
-    subst (AreWithin (texts g.D.Disk c.self.inside.volumes.journal)) (sym c.as_slice.ensures.value)
-    (c.self.invariant.within told)
+pub piece-requires-clause-readable : goal.piece-requires-clause-readable
+piece-requires-clause-readable g c =
+    subst (CanReadBy g.D.Disk c.self.inside.told.value c.self.inside.volumes.journal (book_of c.self.inside.volumes.held)) (sym c.as_slice.ensures.value)
+    (laws.readable g.D.Disk c.self.invariant)
 
 pub invariant_of-self : goal.invariant_of-self
 invariant_of-self g c =

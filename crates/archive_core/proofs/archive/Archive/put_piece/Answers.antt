@@ -7,10 +7,9 @@ use Rattle.capture.specs.declared.captured.Stored.{Stored}
 use Rattle.cdxj_index.specs.Facts.{Facts}
 use Rattle.cdxj_index.specs.Order.{without}
 use Rattle.time_text.specs.Texts.{InRange}
-use Rattle.warc_journal.specs.Journals.{texts}
 use Rattle.archive_volumes.specs.Entries.{entered}
 use Rattle.archive_volumes.specs.Held.{book_of, stored_in}
-use Rattle.archive_volumes.specs.Spots.{AreHeldWhole, ArePlaced, AreSpotsOf, AreWithin, whole_from}
+use Rattle.archive_volumes.specs.Spots.{AreHeldWhole, whole_from}
 use Rattle.archive_volumes.specs.declared.spot.Spot.{Spot}
 use Rattle.archive_core.specs.Holdings.{Holdings}
 use Rattle.archive_pieces.specs.PieceReady.{MayHold}
@@ -21,6 +20,8 @@ use Rattle.archive_core.proofs.ExitLaws as exits
 use Rattle.archive_core.proofs.NamedLaws.{before_at}
 use Rattle.archive_core.proofs.PieceExitLaws as laws
 use Rattle.archive_core.proofs.archive.Archive.put_piece.Given.{Over}
+use Rattle.archive_volumes.specs.Bringing.{CanReadBy}
+use Rattle.archive_core.proofs.ReadLaws.{readable}
 use Rattle.archive_core.proofs.archive.Archive.put_piece.Goals as goal
 use Rattle.archive_core.specs.steps.Taking.{parts_as}
 use Rattle.archive_volumes.specs.Ready.{spot_in}
@@ -151,24 +152,10 @@ commit-requires-clause-ready g c =
     laws.commit_ready g.D.Disk c.storing_has_a_basis.ensures c.reading_laws.ensures (holdings_of c.self.inside) c.make_piece_ready.new.volumes
     c.args.text.now c.args.group c.args.first c.args.begins c.in_ok-entered.entered (taken g c)
 
-pub commit-requires-clause-holds : goal.commit-requires-clause-holds
-commit-requires-clause-holds g c = (taken g c).is.holds
-
-pub commit-requires-clause-measured : goal.commit-requires-clause-measured
-commit-requires-clause-measured g c = (taken g c).is.measured
-
-pub commit-requires-clause-spots : goal.commit-requires-clause-spots
-commit-requires-clause-spots g c =
-    subst (λ (l : List Spot). AreSpotsOf (book_of c.make_piece_ready.new.volumes.held) l) (sym c.with_room.ensures.spots) (taken g c).is.spots
-
-pub commit-requires-clause-within : goal.commit-requires-clause-within
-commit-requires-clause-within g c told =
-    subst (AreWithin (texts g.D.Disk c.make_piece_ready.new.volumes.journal)) (sym c.with_room.ensures.spots) ((taken g c).is.within told)
-
-pub commit-requires-clause-placed : goal.commit-requires-clause-placed
-commit-requires-clause-placed g c told =
+pub commit-requires-clause-readable : goal.commit-requires-clause-readable
+commit-requires-clause-readable g c =
     let now = c.make_piece_ready.new.volumes in
-    subst (λ (l : List Spot). ArePlaced (texts g.D.Disk now.journal) (book_of now.held) l) (sym c.with_room.ensures.spots) ((taken g c).is.placed told)
+    subst (CanReadBy g.D.Disk c.self.inside.told.value now.journal (book_of now.held)) (sym c.with_room.ensures.spots) (readable g.D.Disk (taken g c).is)
 
 pub commit-requires-clause-table : goal.commit-requires-clause-table
 commit-requires-clause-table g c =

@@ -7,14 +7,13 @@ use Rattle.capture.specs.declared.captured.Stored.{Stored}
 use Rattle.cdxj_index.specs.Facts.{Facts}
 use Rattle.cdxj_index.specs.Order.{without}
 use Rattle.time_text.specs.Texts.{InRange}
-use Rattle.warc_journal.specs.Journals.{texts}
 use Rattle.archive_shelf.specs.declared.fault.StoreFault.TheVariants as stores
 use Rattle.archive_shelf.specs.declared.receipt.Receipt.{Receipt}
 use Rattle.archive_volumes.specs.Entries.{entered}
 use Rattle.archive_volumes.specs.Held.{book_of, stored_in}
 use Rattle.archive_core.specs.Holdings.{Holdings, contents_of}
 use Rattle.archive_core.specs.Looking.{RefersTo}
-use Rattle.archive_volumes.specs.Spots.{AreHeldWhole, ArePlaced, AreSpotsOf, AreWithin, whole_from}
+use Rattle.archive_volumes.specs.Spots.{AreHeldWhole, AreSpotsOf, whole_from}
 use Rattle.archive_volumes.specs.Ready.{incoming_of, spot_in}
 use Rattle.archive_core.specs.Stores.{Stores}
 use Rattle.archive_core.specs.View.{holdings_of}
@@ -25,6 +24,8 @@ use Rattle.archive_core.proofs.PayloadLaws.{has_one}
 use Rattle.archive_core.proofs.FaultLaws.{memory_since}
 use Rattle.archive_core.proofs.NamedLaws.{before_at}
 use Rattle.archive_core.proofs.archive.Archive.store_compared.Given.{Over}
+use Rattle.archive_volumes.specs.Bringing.{CanReadBy}
+use Rattle.archive_core.proofs.ReadLaws.{readable}
 use Rattle.archive_core.proofs.archive.Archive.store_compared.Goals as goal
 
 -- what is asked of the disk
@@ -128,24 +129,10 @@ pub commit-requires-clause-ready : goal.commit-requires-clause-ready
 commit-requires-clause-ready g c =
     laws.commit_ready g.D.Disk c.storing_has_a_basis.ensures (holdings_of c.self.inside) c.make_ready.new.self (incoming_of c.args.taken.now c.args.digest.now c.args.same) c.in_ok-entered.entered (entering g c)
 
-pub commit-requires-clause-holds : goal.commit-requires-clause-holds
-commit-requires-clause-holds g c = (entering g c).is.holds
-
-pub commit-requires-clause-measured : goal.commit-requires-clause-measured
-commit-requires-clause-measured g c = (entering g c).is.measured
-
-pub commit-requires-clause-spots : goal.commit-requires-clause-spots
-commit-requires-clause-spots g c =
-    subst (λ (l : List Spot). AreSpotsOf (book_of c.make_ready.new.self.held) l) (sym c.reserve_kept.ensures.spots) (entering g c).is.spots
-
-pub commit-requires-clause-within : goal.commit-requires-clause-within
-commit-requires-clause-within g c told =
-    subst (AreWithin (texts g.D.Disk c.make_ready.new.self.journal)) (sym c.reserve_kept.ensures.spots) ((entering g c).is.within told)
-
-pub commit-requires-clause-placed : goal.commit-requires-clause-placed
-commit-requires-clause-placed g c told =
+pub commit-requires-clause-readable : goal.commit-requires-clause-readable
+commit-requires-clause-readable g c =
     let now = c.make_ready.new.self in
-    subst (λ (l : List Spot). ArePlaced (texts g.D.Disk now.journal) (book_of now.held) l) (sym c.reserve_kept.ensures.spots) ((entering g c).is.placed told)
+    subst (CanReadBy g.D.Disk c.self.inside.told.value now.journal (book_of now.held)) (sym c.reserve_kept.ensures.spots) (readable g.D.Disk (entering g c).is)
 
 pub commit-requires-clause-table : goal.commit-requires-clause-table
 commit-requires-clause-table g c =

@@ -25,7 +25,7 @@ returns-then-not-is_same-clause-names g c =
     let book = book_of c.args.self.now.held in
     let spot = c.index-spots-number.result in
     let here = got c.args.spots.now c.args.number spot c.requires.below c.index-spots-number.is in
-    let its = c.requires.spots.each c.args.number spot here in
+    let its = c.requires.readable.are.each c.args.number spot here in
     let own : is_same_form spot.form ≡ false = sym c.is_same.ensures ∙ c.if-not-is_same.true in
     own_names book c.args.number spot its own c.bring_own.result (c.bring_own.ensures.digest spot here)
 
@@ -44,7 +44,7 @@ returns-then-not-is_same-clause-digests g c =
     let book = book_of c.args.self.now.held in
     let spot = c.index-spots-number.result in
     let here = got c.args.spots.now c.args.number spot c.requires.below c.index-spots-number.is in
-    let its = c.requires.spots.each c.args.number spot here in
+    let its = c.requires.readable.are.each c.args.number spot here in
     let own : is_same_form spot.form ≡ false = sym c.is_same.ensures ∙ c.if-not-is_same.true in
     own_digests book c.args.number spot its own c.bring_own.result (c.bring_own.ensures.digest spot here)
 
@@ -60,7 +60,7 @@ returns-in-Some-clause-names g c =
     let book = book_of c.args.self.now.held in
     let spot = c.index-spots-number.result in
     let here = got c.args.spots.now c.args.number spot c.requires.below c.index-spots-number.is in
-    let its = c.requires.spots.each c.args.number spot here in
+    let its = c.requires.readable.are.each c.args.number spot here in
     let form : spot.form ≡ forms.Same c.in-Some.first = same_form spot.form c.in-Some.first (sym c.keeper.ensures ∙ c.in-Some.is) in
     let refers = refers_to book c.args.number spot its c.in-Some.first form in
     let one = spot_there c.args.spots.now c.in-Some.first (omega (arith, refers.0, c.requires.below)) in
@@ -71,7 +71,7 @@ returns-in-Some-clause-kept g c =
     let book = book_of c.args.self.now.held in
     let spot = c.index-spots-number.result in
     let here = got c.args.spots.now c.args.number spot c.requires.below c.index-spots-number.is in
-    let its = c.requires.spots.each c.args.number spot here in
+    let its = c.requires.readable.are.each c.args.number spot here in
     let form : spot.form ≡ forms.Same c.in-Some.first = same_form spot.form c.in-Some.first (sym c.keeper.ensures ∙ c.in-Some.is) in
     let refers = refers_to book c.args.number spot its c.in-Some.first form in
     let one = spot_there c.args.spots.now c.in-Some.first (omega (arith, refers.0, c.requires.below)) in
@@ -91,11 +91,11 @@ returns-in-Some-clause-digests g c =
     let book = book_of c.args.self.now.held in
     let spot = c.index-spots-number.result in
     let here = got c.args.spots.now c.args.number spot c.requires.below c.index-spots-number.is in
-    let its = c.requires.spots.each c.args.number spot here in
+    let its = c.requires.readable.are.each c.args.number spot here in
     let form : spot.form ≡ forms.Same c.in-Some.first = same_form spot.form c.in-Some.first (sym c.keeper.ensures ∙ c.in-Some.is) in
     let refers = refers_to book c.args.number spot its c.in-Some.first form in
     let one = spot_there c.args.spots.now c.in-Some.first (omega (arith, refers.0, c.requires.below)) in
-    let keeper = c.requires.spots.each c.in-Some.first one.0 one.1 in
+    let keeper = c.requires.readable.are.each c.in-Some.first one.0 one.1 in
     same_digests book c.args.number spot its c.in-Some.first form one.0 keeper c.bring_same.result (c.bring_same.ensures.digest one.0 one.1)
 
 pub bring_told-requires-clause-form : goal.bring_told-requires-clause-form
@@ -136,7 +136,7 @@ returns-in-None-clause-digests g c =
     let book = book_of c.args.self.now.held in
     let spot = c.index-spots-number.result in
     let here = got c.args.spots.now c.args.number spot c.requires.below c.index-spots-number.is in
-    let its = c.requires.spots.each c.args.number spot here in
+    let its = c.requires.readable.are.each c.args.number spot here in
     let form : spot.form ≡ forms.Told true =
     told_form spot.form (sym c.is_same.ensures ∙ c.if-not-is_same.false) (sym c.keeper.ensures ∙ c.in-None.is) in
     line_digests book c.args.number spot its (ap is_told_form form) c.bring_told.result (c.bring_told.ensures.digest spot here)

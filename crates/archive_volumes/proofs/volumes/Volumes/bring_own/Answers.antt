@@ -21,7 +21,7 @@ returns-in_ok-brought-in-Right-clause-brings g c =
     let spot = c.index-spots-number.result in
     let book = book_of c.args.self.now.held in
     let here : slice_get c.args.spots.now c.args.number ≡ Some spot = got c.args.spots.now c.args.number spot c.requires.below c.index-spots-number.is in
-    let its : IsSpotOf book c.args.number spot = c.requires.spots.each c.args.number spot here in
+    let its : IsSpotOf book c.args.number spot = c.requires.readable.are.each c.args.number spot here in
     let checked : IsChecked spot.digest c.in_ok-read.read = c.in_ok-read.ensures.checked spot here in
     let right : IsTrue c.args.told.now.value → AreOf book c.args.number c.in-Right.head c.in-Right.payload = λ told.
     subst (λ (r : ReadBack). IsReadRight book c.args.number r) c.in-Right.is (c.in_ok-read.ensures.right told) in

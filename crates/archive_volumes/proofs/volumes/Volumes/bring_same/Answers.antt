@@ -3,7 +3,7 @@ use Rattle.std.specs.Prelude.{IfSome}
 use Rattle.capture.specs.declared.book.Book.{Book}
 use Rattle.capture.specs.declared.captured.Brought.{Brought}
 use Rattle.warc_journal.specs.Journals.{texts}
-use Rattle.archive_volumes.proofs.BringLaws.{damaged, damaged_read, has_head, keeper_keeps, keeps_payload, named, no_digest, placed_on, reads_itself, reads_then, refers_to, replayable, right_read, same_brought, spots_on, within_on}
+use Rattle.archive_volumes.proofs.BringLaws.{damaged, damaged_read, has_head, keeper_keeps, keeps_payload, named, no_digest, readable_on, reads_itself, reads_then, refers_to, replayable, right_read, same_brought}
 use Rattle.archive_volumes.proofs.DamageLaws.{found_on, keeper_found, other_found, revisit_found}
 use Rattle.archive_volumes.proofs.DigestLaws.{alike, differ, keeper_goes, one_spot, same_digest}
 use Rattle.archive_volumes.proofs.GroupLaws.{got}
@@ -22,7 +22,7 @@ bounds-spots-first g c =
     let book = book_of c.args.self.now.held in
     let spot = c.index-spots-number.result in
     let here = got c.args.spots.now c.args.number spot c.requires.below c.index-spots-number.is in
-    let its = c.requires.spots.each c.args.number spot here in
+    let its = c.requires.readable.are.each c.args.number spot here in
     let form = c.requires.form spot here in
     let refers = refers_to book c.args.number spot its c.args.first form in
     omega (arith, refers.0, c.requires.below)
@@ -31,7 +31,7 @@ pub read_head-requires-clause-place : goal.read_head-requires-clause-place
 read_head-requires-clause-place g c tells =
     let spot = c.index-spots-number.result in
     let here = got c.args.spots.now c.args.number spot c.requires.below c.index-spots-number.is in
-    (c.requires.within tells).each c.args.number spot here
+    (c.requires.readable.within tells).each c.args.number spot here
 
 pub returns-then-ne-clause-reads : goal.returns-then-ne-clause-reads
 returns-then-ne-clause-reads g c = reads_itself g.D.Disk c.args.self.now
@@ -41,47 +41,39 @@ read_own-requires-clause-below g c =
     let book = book_of c.args.self.now.held in
     let spot = c.index-spots-number.result in
     let here = got c.args.spots.now c.args.number spot c.requires.below c.index-spots-number.is in
-    let its = c.requires.spots.each c.args.number spot here in
+    let its = c.requires.readable.are.each c.args.number spot here in
     let form = c.requires.form spot here in
     let refers = refers_to book c.args.number spot its c.args.first form in
     omega (arith, refers.0, c.requires.below)
 
-pub read_own-requires-clause-spots : goal.read_own-requires-clause-spots
-read_own-requires-clause-spots g c =
-    spots_on g.D.Disk c.args.self.now c.read_head.new.self c.read_head.ensures.reads c.args.spots.now c.requires.spots
-
-pub read_own-requires-clause-within : goal.read_own-requires-clause-within
-read_own-requires-clause-within g c tells =
-    within_on g.D.Disk c.args.self.now c.read_head.new.self c.read_head.ensures.reads tells c.args.spots.now (c.requires.within tells)
-
-pub read_own-requires-clause-placed : goal.read_own-requires-clause-placed
-read_own-requires-clause-placed g c told =
-    placed_on g.D.Disk c.args.self.now c.read_head.new.self c.read_head.ensures.reads (c.requires.holds.tells told) c.args.spots.now (c.requires.placed told)
+pub read_own-requires-clause-readable : goal.read_own-requires-clause-readable
+read_own-requires-clause-readable g c =
+    readable_on g.D.Disk c.args.told.now.value c.args.self.now c.read_head.new.self c.read_head.ensures.reads c.args.spots.now c.requires.readable
 
 pub read_own-requires-clause-own : goal.read_own-requires-clause-own
 read_own-requires-clause-own g c keeper at =
     let book = book_of c.args.self.now.held in
     let spot = c.index-spots-number.result in
     let here = got c.args.spots.now c.args.number spot c.requires.below c.index-spots-number.is in
-    let its = c.requires.spots.each c.args.number spot here in
+    let its = c.requires.readable.are.each c.args.number spot here in
     let form = c.requires.form spot here in
-    keeper_keeps book c.args.number spot its c.args.first form keeper (c.requires.spots.each c.args.first keeper at)
+    keeper_keeps book c.args.number spot its c.args.first form keeper (c.requires.readable.are.each c.args.first keeper at)
 
 pub returns-in-None-clause-brings : goal.returns-in-None-clause-brings
 returns-in-None-clause-brings g c =
     let book = book_of c.args.self.now.held in
     let spot = c.index-spots-number.result in
     let here = got c.args.spots.now c.args.number spot c.requires.below c.index-spots-number.is in
-    let its = c.requires.spots.each c.args.number spot here in
+    let its = c.requires.readable.are.each c.args.number spot here in
     let form = c.requires.form spot here in
     let kept = c.index-spots-first.result.digest in
     let all = texts g.D.Disk c.args.self.now.journal in (
       omega arith,
       inl refl,
       damaged c.args.told.now.value kept None
-          (λ told. has_head book c.args.number spot its c.args.first form all ((c.requires.placed told).each c.args.number spot here)
-          (head_in all spot) refl (c.requires.holds.sound told)
-          (subst (IsHeadAt (head_in all spot)) c.in-None.is (c.in_ok-head.ensures.head (c.requires.holds.tells told))))
+          (λ told. has_head book c.args.number spot its c.args.first form all ((c.requires.readable.placed told).each c.args.number spot here)
+          (head_in all spot) refl (c.requires.readable.holds.sound told)
+          (subst (IsHeadAt (head_in all spot)) c.in-None.is (c.in_ok-head.ensures.head (c.requires.readable.holds.tells told))))
           (no_digest kept),
     )
 
@@ -106,7 +98,7 @@ returns-in_ok-brought-in-Ok-clause-brings g c =
     let book = book_of c.args.self.now.held in
     let spot = c.index-spots-number.result in
     let here = got c.args.spots.now c.args.number spot c.requires.below c.index-spots-number.is in
-    let its = c.requires.spots.each c.args.number spot here in
+    let its = c.requires.readable.are.each c.args.number spot here in
     let form = c.requires.form spot here in
     let right : IsTrue c.args.told.now.value → IsReadRight book c.args.first c.in_ok-read.read = λ told.
     subst (λ (b : Book). IsReadRight b c.args.first c.in_ok-read.read) (ap book_of c.read_head.ensures.reads.held) (c.in_ok-read.ensures.right told) in
@@ -117,8 +109,8 @@ returns-in_ok-brought-in-Ok-clause-brings g c =
     subst (λ (b : Brought). BringsFrom c.args.told.now.value book c.args.number (Ok b)) (sym c.in_ok-brought-in-Ok.ensures) (
       replayable book c.args.number spot its head c.in-Ok.payload parsed,
       named book c.args.number spot its head c.in-Ok.payload,
-      λ told. same_brought book c.args.number spot its c.args.first form all ((c.requires.placed told).each c.args.number spot here)
-          head (subst (IsHeadAt (head_in all spot)) c.in-Some.is (c.in_ok-head.ensures.head (c.requires.holds.tells told)))
+      λ told. same_brought book c.args.number spot its c.args.first form all ((c.requires.readable.placed told).each c.args.number spot here)
+          head (subst (IsHeadAt (head_in all spot)) c.in-Some.is (c.in_ok-head.ensures.head (c.requires.readable.holds.tells told)))
           c.in-Ok.payload back.0 (subst (λ (r : ReadBack). IsReadRight book c.args.first r) back.1 (right told)),
     )
 
@@ -127,7 +119,7 @@ returns-in-Err-clause-brings g c =
     let book = book_of c.args.self.now.held in
     let spot = c.index-spots-number.result in
     let here = got c.args.spots.now c.args.number spot c.requires.below c.index-spots-number.is in
-    let its = c.requires.spots.each c.args.number spot here in
+    let its = c.requires.readable.are.each c.args.number spot here in
     let form = c.requires.form spot here in
     let refers = refers_to book c.args.number spot its c.args.first form in
     let keeper = c.index-spots-first.result in
@@ -146,7 +138,7 @@ returns-in-None-clause-digest g c other at =
     let book = book_of c.args.self.now.held in
     let spot = c.index-spots-number.result in
     let here = got c.args.spots.now c.args.number spot c.requires.below c.index-spots-number.is in
-    let its = c.requires.spots.each c.args.number spot here in
+    let its = c.requires.readable.are.each c.args.number spot here in
     let form = c.requires.form spot here in
     let refers = refers_to book c.args.number spot its c.args.first form in
     let keeper = c.index-spots-first.result in
@@ -163,7 +155,7 @@ returns-in-Err-clause-digest g c other at =
     let book = book_of c.args.self.now.held in
     let spot = c.index-spots-number.result in
     let here = got c.args.spots.now c.args.number spot c.requires.below c.index-spots-number.is in
-    let its = c.requires.spots.each c.args.number spot here in
+    let its = c.requires.readable.are.each c.args.number spot here in
     let form = c.requires.form spot here in
     let refers = refers_to book c.args.number spot its c.args.first form in
     let keeper = c.index-spots-first.result in
@@ -175,7 +167,7 @@ returns-then-ne-clause-brings g c =
     let book = book_of c.args.self.now.held in
     let spot = c.index-spots-number.result in
     let here = got c.args.spots.now c.args.number spot c.requires.below c.index-spots-number.is in
-    let its = c.requires.spots.each c.args.number spot here in
+    let its = c.requires.readable.are.each c.args.number spot here in
     let form = c.requires.form spot here in
     let refers = refers_to book c.args.number spot its c.args.first form in
     let keeper = c.index-spots-first.result in
@@ -184,7 +176,7 @@ returns-then-ne-clause-brings g c =
       omega (arith, refers.0),
       keeps_payload book c.args.number spot its c.args.first form,
       damaged c.args.told.now.value keeper.digest (Some spot.digest)
-          (λ told. let placed = c.requires.placed told in
+          (λ told. let placed = c.requires.readable.placed told in
           other (ap Some (sym (same_digest (texts g.D.Disk c.args.self.now.journal) book c.args.number c.args.first spot keeper its form
           (placed.each c.args.number spot here) (placed.each c.args.first keeper there)))))
           other,
@@ -195,7 +187,7 @@ returns-then-ne-clause-digest g c other at =
     let book = book_of c.args.self.now.held in
     let spot = c.index-spots-number.result in
     let here = got c.args.spots.now c.args.number spot c.requires.below c.index-spots-number.is in
-    let its = c.requires.spots.each c.args.number spot here in
+    let its = c.requires.readable.are.each c.args.number spot here in
     let form = c.requires.form spot here in
     let refers = refers_to book c.args.number spot its c.args.first form in
     let keeper = c.index-spots-first.result in
@@ -207,7 +199,7 @@ returns-in_ok-brought-in-Ok-clause-own g c other at =
     let book = book_of c.args.self.now.held in
     let spot = c.index-spots-number.result in
     let here = got c.args.spots.now c.args.number spot c.requires.below c.index-spots-number.is in
-    let its = c.requires.spots.each c.args.number spot here in
+    let its = c.requires.readable.are.each c.args.number spot here in
     let form = c.requires.form spot here in
     let refers = refers_to book c.args.number spot its c.args.first form in
     let keeper = c.index-spots-first.result in
@@ -222,12 +214,12 @@ returns-then-ne-clause-found g c tells =
     let book = book_of c.args.self.now.held in
     let spot = c.index-spots-number.result in
     let here = got c.args.spots.now c.args.number spot c.requires.below c.index-spots-number.is in
-    let its = c.requires.spots.each c.args.number spot here in
+    let its = c.requires.readable.are.each c.args.number spot here in
     let form = c.requires.form spot here in
     let refers = refers_to book c.args.number spot its c.args.first form in
     let keeper = c.index-spots-first.result in
     let there = got c.args.spots.now c.args.first keeper (omega (arith, refers.0, c.requires.below)) c.index-spots-first.is in
-    let own = keeper_keeps book c.args.number spot its c.args.first form keeper (c.requires.spots.each c.args.first keeper there) in
+    let own = keeper_keeps book c.args.number spot its c.args.first form keeper (c.requires.readable.are.each c.args.first keeper there) in
     other_found (texts g.D.Disk c.args.self.now.journal) book.namespace c.args.spots.now c.args.number spot here c.args.first keeper there own
     (λ same. differ keeper.digest spot.digest c.ne.result c.ne.ensures c.if-ne.true (ap Some (sym same)))
 
@@ -243,12 +235,12 @@ returns-in-Err-clause-found g c tells =
     let book = book_of c.args.self.now.held in
     let spot = c.index-spots-number.result in
     let here = got c.args.spots.now c.args.number spot c.requires.below c.index-spots-number.is in
-    let its = c.requires.spots.each c.args.number spot here in
+    let its = c.requires.readable.are.each c.args.number spot here in
     let form = c.requires.form spot here in
     let refers = refers_to book c.args.number spot its c.args.first form in
     let keeper = c.index-spots-first.result in
     let there = got c.args.spots.now c.args.first keeper (omega (arith, refers.0, c.requires.below)) c.index-spots-first.is in
-    let own = keeper_keeps book c.args.number spot its c.args.first form keeper (c.requires.spots.each c.args.first keeper there) in
+    let own = keeper_keeps book c.args.number spot its c.args.first form keeper (c.requires.readable.are.each c.args.first keeper there) in
     let later = c.read_head.new.self in
     let damaged_is = damaged_read c.in_ok-read.read c.in-Err.found (sym c.payload_of.ensures ∙ c.in-Err.is) in
     keeper_found (texts g.D.Disk c.args.self.now.journal) book.namespace c.args.spots.now c.args.number spot here c.args.first keeper there own

@@ -9,7 +9,7 @@ use Rattle.capture.specs.declared.captured.Brought.{Brought}
 use Rattle.warc_journal.specs.Journals.{texts}
 use Rattle.archive_shelf.specs.declared.fault.BringFault.{BringFault}
 use Rattle.archive_shelf.specs.declared.fault.BringFault.TheVariants as brings
-use Rattle.archive_volumes.proofs.BringLaws.{damaged, named, no_digest, placed_on, reads_then, replayable, spots_on, within_on}
+use Rattle.archive_volumes.proofs.BringLaws.{damaged, named, no_digest, readable_on, reads_then, replayable}
 use Rattle.archive_volumes.proofs.ChooseLaws.{numbers_digest, numbers_whole}
 use Rattle.archive_volumes.proofs.DigestLaws.{line_goes, one_spot}
 use Rattle.archive_volumes.proofs.GroupLaws.{got}
@@ -28,20 +28,9 @@ as_told : (told : Bool) (book : Book) (number : ℕ) (kept : List ℕ) (result :
 as_told told book number kept result is never =
     subst (BringsFrom told book number) (sym is) (omega arith, inl refl, damaged told kept None never (no_digest kept))
 
-pub original_payload-requires-clause-holds : goal.original_payload-requires-clause-holds
-original_payload-requires-clause-holds g c = c.reread.ensures.reads.holds c.args.told.now.value c.requires.holds
-
-pub original_payload-requires-clause-measured : goal.original_payload-requires-clause-measured
-original_payload-requires-clause-measured g c = c.reread.ensures.reads.measured c.requires.measured
-
-pub original_payload-requires-clause-spots : goal.original_payload-requires-clause-spots
-original_payload-requires-clause-spots g c = spots_on g.D.Disk c.args.self.now c.reread.new.self c.reread.ensures.reads c.args.spots.now c.requires.spots
-
-pub original_payload-requires-clause-within : goal.original_payload-requires-clause-within
-original_payload-requires-clause-within g c = λ tells. within_on g.D.Disk c.args.self.now c.reread.new.self c.reread.ensures.reads tells c.args.spots.now (c.requires.within tells)
-
-pub original_payload-requires-clause-placed : goal.original_payload-requires-clause-placed
-original_payload-requires-clause-placed g c = λ told. placed_on g.D.Disk c.args.self.now c.reread.new.self c.reread.ensures.reads (c.requires.holds.tells told) c.args.spots.now (c.requires.placed told)
+pub original_payload-requires-clause-readable : goal.original_payload-requires-clause-readable
+original_payload-requires-clause-readable g c =
+    readable_on g.D.Disk c.args.told.now.value c.args.self.now c.reread.new.self c.reread.ensures.reads c.args.spots.now c.requires.readable
 
 pub original_payload-requires-clause-whole : goal.original_payload-requires-clause-whole
 original_payload-requires-clause-whole g c =
@@ -55,7 +44,7 @@ returns-in-None-clause-brings g c =
     let spot = c.index-spots-number.result in
     let here = got c.args.spots.now c.args.number spot c.requires.below c.index-spots-number.is in
     as_told c.args.told.now.value book c.args.number spot.digest c.not_as_told.result c.not_as_told.ensures
-    (λ told. revisit_told book c.args.spots.now c.requires.spots (texts g.D.Disk c.args.self.now.journal) (c.requires.placed told) c.args.number spot here
+    (λ told. revisit_told book c.args.spots.now c.requires.readable.are (texts g.D.Disk c.args.self.now.journal) (c.requires.readable.placed told) c.args.number spot here
     (c.requires.form spot here) c.in_ok-read.read (sym c.revisit_in.ensures ∙ c.in-None.is) (c.in_ok-read.ensures.right told))
 
 pub returns-in-None-clause-digest : goal.returns-in-None-clause-digest
@@ -71,7 +60,7 @@ returns-in_ok-brought-in-Some-found-clause-brings g c =
     let book = book_of c.args.self.now.held in
     let spot = c.index-spots-number.result in
     let here = got c.args.spots.now c.args.number spot c.requires.below c.index-spots-number.is in
-    let its = c.requires.spots.each c.args.number spot here in
+    let its = c.requires.readable.are.each c.args.number spot here in
     let told_texts = texts g.D.Disk c.args.self.now.journal in
     let stays : book_of c.reread.new.self.held ≡ book = ap book_of c.reread.ensures.reads.held in
     let right : IsTrue c.args.told.now.value → IsSameOf book c.args.number c.in-Some.revisit.head c.in-Some.revisit.same = λ told.
@@ -80,13 +69,13 @@ returns-in_ok-brought-in-Some-found-clause-brings g c =
     subst (λ (b : Book). HasItsPayload b (right told).first c.in_ok-found.found) stays
     (c.in_ok-found.ensures.right told (right told).first
     (subst (λ (b : Book). IsFirstTold b c.in-Some.revisit.same c.args.candidates.now (right told).first) (sym stays)
-    (first_told book c.args.spots.now c.requires.spots told_texts (c.requires.placed told) c.args.number spot here (c.requires.form spot here) c.in-Some.revisit.head
+    (first_told book c.args.spots.now c.requires.readable.are told_texts (c.requires.readable.placed told) c.args.number spot here (c.requires.form spot here) c.in-Some.revisit.head
     c.in-Some.revisit.same (right told) c.args.candidates.now (c.requires.candidates spot here) c.requires.rising))) in
     let head : IsHead c.in-Some.revisit.head true = subst (λ (r : Reread). IsReread spot.digest r) (revisit_read c.in_ok-read.read c.in-Some.revisit (sym c.revisit_in.ensures ∙ c.in-Some.is)) (c.in_ok-read.ensures.read spot here) in
     subst (λ (b : Brought). BringsFrom c.args.told.now.value book c.args.number (Ok b)) (sym c.in_ok-brought-in-Some-found.ensures) (
       replayable book c.args.number spot its c.in-Some.revisit.head c.in-Some-found.payload head,
       named book c.args.number spot its c.in-Some.revisit.head c.in-Some-found.payload,
-      λ told. told_brought book c.args.spots.now c.requires.spots told_texts (c.requires.placed told) c.args.number spot here (c.requires.form spot here)
+      λ told. told_brought book c.args.spots.now c.requires.readable.are told_texts (c.requires.readable.placed told) c.args.number spot here (c.requires.form spot here)
           c.in-Some.revisit.head c.in-Some.revisit.same (right told) c.in-Some-found.payload
           (subst (λ (f : Option (List ℕ)). HasItsPayload book (right told).first f) c.in-Some-found.is (found told)),
     )
@@ -115,7 +104,7 @@ returns-in-None-found-clause-brings g c =
     subst (λ (b : Book). HasItsPayload b (right told).first c.in_ok-found.found) stays
     (c.in_ok-found.ensures.right told (right told).first
     (subst (λ (b : Book). IsFirstTold b c.in-Some.revisit.same c.args.candidates.now (right told).first) (sym stays)
-    (first_told book c.args.spots.now c.requires.spots told_texts (c.requires.placed told) c.args.number spot here (c.requires.form spot here) c.in-Some.revisit.head
+    (first_told book c.args.spots.now c.requires.readable.are told_texts (c.requires.readable.placed told) c.args.number spot here (c.requires.form spot here) c.in-Some.revisit.head
     c.in-Some.revisit.same (right told) c.args.candidates.now (c.requires.candidates spot here) c.requires.rising))) in
     as_told c.args.told.now.value book c.args.number spot.digest c.not_as_told-in-None-found.result c.not_as_told-in-None-found.ensures
     (λ told. subst (λ (f : Option (List ℕ)). HasItsPayload book (right told).first f) c.in-None-found.is (found told))

@@ -3,34 +3,20 @@ use Rattle.std.proofs.Common.{Option, â„•, false, Ok, get_or, refl, ap, subst, â
 use Rattle.capture.specs.declared.book.Book.{Book}
 use Rattle.warc_journal.specs.Journals.{texts}
 use Rattle.archive_shelf.specs.Comparing.{HasWhole}
-use Rattle.archive_volumes.proofs.BringLaws.{made_on, placed_on, reads_then, spots_on, within_on}
+use Rattle.archive_volumes.proofs.BringLaws.{made_on, readable_on, reads_then}
 use Rattle.archive_volumes.proofs.ChooseLaws.{none_more}
 use Rattle.archive_volumes.proofs.DamageLaws.{damage_exit, damage_on, passed_more, passed_on}
 use Rattle.archive_volumes.specs.Choosing.{Asks}
 use Rattle.archive_volumes.specs.Held.{book_of}
 use Rattle.archive_volumes.proofs.volumes.Volumes.choose.Goals as goal
 
-pub has_payload-requires-clause-spots : goal.has_payload-requires-clause-spots
-has_payload-requires-clause-spots g c =
-    spots_on g.D.Disk c.args.self.now c.loop-candidate.self c.loop-candidate.invariant.reads c.args.spots.now c.requires.spots
-
-pub has_payload-requires-clause-holds : goal.has_payload-requires-clause-holds
-has_payload-requires-clause-holds g c = c.loop-candidate.invariant.reads.holds c.args.told.now.value c.requires.holds
-
-pub has_payload-requires-clause-measured : goal.has_payload-requires-clause-measured
-has_payload-requires-clause-measured g c = c.loop-candidate.invariant.reads.measured c.requires.measured
+pub has_payload-requires-clause-readable : goal.has_payload-requires-clause-readable
+has_payload-requires-clause-readable g c =
+    readable_on g.D.Disk c.args.told.now.value c.args.self.now c.loop-candidate.self c.loop-candidate.invariant.reads c.args.spots.now c.requires.readable
 
 pub has_payload-requires-clause-made : goal.has_payload-requires-clause-made
 has_payload-requires-clause-made g c untold =
     made_on g.D.Disk c.args.self.now c.loop-candidate.self c.loop-candidate.invariant.reads c.args.spots.now (c.requires.made untold)
-
-pub has_payload-requires-clause-within : goal.has_payload-requires-clause-within
-has_payload-requires-clause-within g c tells =
-    within_on g.D.Disk c.args.self.now c.loop-candidate.self c.loop-candidate.invariant.reads tells c.args.spots.now (c.requires.within tells)
-
-pub has_payload-requires-clause-placed : goal.has_payload-requires-clause-placed
-has_payload-requires-clause-placed g c told =
-    placed_on g.D.Disk c.args.self.now c.loop-candidate.self c.loop-candidate.invariant.reads (c.requires.holds.tells told) c.args.spots.now (c.requires.placed told)
 
 pub returns-in_err-has-clause-reads : goal.returns-in_err-has-clause-reads
 returns-in_err-has-clause-reads g c =

@@ -23,7 +23,7 @@ disk_laws g = record { earlier = g.met.D.Disk.earlier; now_counts = g.met.D.Disk
 pub returns-in_err-place-clause-spots : goal.returns-in_err-place-clause-spots
 returns-in_err-place-clause-spots g c =
     spots_left (book_of c.args.self.now.held) (book_of c.write.new.self.held) c.args.ready.prepared c.args.spots.now.items
-    c.in_err-place.ensures.left c.requires.spots
+    c.in_err-place.ensures.left c.requires.readable.are
 
 pub returns-in_err-place-clause-made : goal.returns-in_err-place-clause-made
 returns-in_err-place-clause-made g c made =
@@ -33,13 +33,13 @@ returns-in_err-place-clause-made g c made =
 pub returns-in_err-place-clause-within : goal.returns-in_err-place-clause-within
 returns-in_err-place-clause-within g c tells =
     within_left c.args.ready.prepared (texts g.D.Disk c.args.self.now.journal) (texts g.D.Disk c.write.new.self.journal) c.args.spots.now.items
-    (c.in_err-place.ensures.texts_left tells) (c.requires.within tells)
+    (c.in_err-place.ensures.texts_left tells) (c.requires.readable.within tells)
 
 pub returns-in_err-place-clause-placed : goal.returns-in_err-place-clause-placed
 returns-in_err-place-clause-placed g c told =
-    let tells = c.requires.holds.tells told in
+    let tells = c.requires.readable.holds.tells told in
     placed_left (book_of c.args.self.now.held) (book_of c.write.new.self.held) c.args.ready.prepared (texts g.D.Disk c.args.self.now.journal)
-    (texts g.D.Disk c.write.new.self.journal) c.args.spots.now.items c.in_err-place.ensures.left (c.in_err-place.ensures.texts_left tells) (c.requires.placed told)
+    (texts g.D.Disk c.write.new.self.journal) c.args.spots.now.items c.in_err-place.ensures.left (c.in_err-place.ensures.texts_left tells) (c.requires.readable.placed told)
 
 pub returns-in_err-place-clause-writes : goal.returns-in_err-place-clause-writes
 returns-in_err-place-clause-writes g c =
@@ -54,7 +54,7 @@ returns-clause-spots g c =
     ∙ ap (λ (s : Spot). record s { volume = c.in_ok-place.place.volume; at = c.in_ok-place.place.at; head_at = c.in_ok-place.place.at + c.args.ready.layout.head_at }) c.requires.ready.kept
     ∙ ap (λ (p : Place). spot_of (stored_in c.args.ready.stored) c.args.ready.digest p.volume p.at (p.at + c.args.ready.layout.head_at)) c.in_ok-place.ensures.place in
     kept_spots g.D.Disk c.args.told.now.value c.args.self.now c.args.ready c.requires.ready (book_of c.write.new.self.held) c.args.spots.now.items c.keep.new.spots.items c.standing-spot.result
-    c.requires.spots c.in_ok-place.ensures.stored c.keep.ensures.spots is_spot
+    c.requires.readable.are c.in_ok-place.ensures.stored c.keep.ensures.spots is_spot
 
 pub returns-clause-made : goal.returns-clause-made
 returns-clause-made g c made =
@@ -74,7 +74,7 @@ returns-clause-within g c tells =
     let given : c.as_slice.result.now ≡ c.args.ready.group = search rules in
     let all : List (List ℕ) = texts_with (texts g.D.Disk c.args.self.now.journal) c.args.ready.prepared in
     kept_within g.D.Disk c.args.told.now.value c.args.self.now c.args.ready c.requires.ready tells (texts g.D.Disk c.write.new.self.journal)
-    c.args.spots.now.items c.keep.new.spots.items c.standing-spot.result (c.requires.within tells)
+    c.args.spots.now.items c.keep.new.spots.items c.standing-spot.result (c.requires.readable.within tells)
     (c.in_ok-place.ensures.text tells ∙ ap (λ (t : List ℕ). with_more all t) given) c.keep.ensures.spots is_spot
 
 pub returns-clause-placed : goal.returns-clause-placed
@@ -85,9 +85,9 @@ returns-clause-placed g c told =
     ∙ ap (λ (p : Place). spot_of (stored_in c.args.ready.stored) c.args.ready.digest p.volume p.at (p.at + c.args.ready.layout.head_at)) c.in_ok-place.ensures.place in
     let given : c.as_slice.result.now ≡ c.args.ready.group = search rules in
     let all : List (List ℕ) = texts_with (texts g.D.Disk c.args.self.now.journal) c.args.ready.prepared in
-    kept_placed g.D.Disk c.args.told.now.value c.args.self.now c.args.ready c.requires.ready told c.requires.holds (texts g.D.Disk c.write.new.self.journal) (book_of c.write.new.self.held)
-    c.args.spots.now.items c.keep.new.spots.items c.standing-spot.result c.requires.spots (c.requires.placed told)
-    (c.in_ok-place.ensures.text (c.requires.holds.tells told) ∙ ap (λ (t : List ℕ). with_more all t) given)
+    kept_placed g.D.Disk c.args.told.now.value c.args.self.now c.args.ready c.requires.ready told c.requires.readable.holds (texts g.D.Disk c.write.new.self.journal) (book_of c.write.new.self.held)
+    c.args.spots.now.items c.keep.new.spots.items c.standing-spot.result c.requires.readable.are (c.requires.readable.placed told)
+    (c.in_ok-place.ensures.text (c.requires.readable.holds.tells told) ∙ ap (λ (t : List ℕ). with_more all t) given)
     c.in_ok-place.ensures.stored c.keep.ensures.spots is_spot
 
 pub returns-clause-kept : goal.returns-clause-kept

@@ -14,20 +14,20 @@ use Rattle.archive_volumes.proofs.volumes.Volumes.group_end.Goals as goal
 pub text_len-requires-clause-there : goal.text_len-requires-clause-there
 text_len-requires-clause-there g c =
     let one = spot_there c.args.spots.now c.args.number c.requires.below in
-    let inside = (c.requires.spots.each c.args.number one.0 one.1).inside in
+    let inside = (c.requires.readable.are.each c.args.number one.0 one.1).inside in
     let book = book_of c.args.self.now.held in
     omega (
       arith,
       slice_get_within book.volumes one.0.volume inside.of inside.placed,
       c.volume_at-volume.ensures one.0 one.1,
-      c.requires.measured.count,
+      c.requires.readable.measured.count,
     )
 
 pub returns-in-Some-clause-within : goal.returns-in-Some-clause-within
 returns-in-Some-clause-within g c tells =
     let one = spot_there c.args.spots.now c.args.number c.requires.below in
     let volume = c.volume_at-volume.ensures one.0 one.1 in
-    within_next (texts g.D.Disk c.args.self.now.journal) c.args.spots.now c.args.number one.0 one.1 (c.requires.within tells) c.in-Some.at
+    within_next (texts g.D.Disk c.args.self.now.journal) c.args.spots.now c.args.number one.0 one.1 (c.requires.readable.within tells) c.in-Some.at
     (subst (λ (v : ℕ). IsNextAt c.args.spots.now c.args.number v c.in-Some.at) volume c.in-Some.ensures)
 
 pub returns-in-None-clause-within : goal.returns-in-None-clause-within
@@ -37,7 +37,7 @@ returns-in-None-clause-within g c tells =
     let volume = c.volume_at-volume.ensures one.0 one.1 in
     if_ok_so (λ (len : ℕ). len ≡ length (text_at all c.volume_at-volume.result)) (EndsWithin all c.args.spots.now c.args.number) c.text_len.result
     (c.text_len.ensures.len tells)
-    (λ len is. within_text all c.args.spots.now c.args.number one.0 one.1 (c.requires.within tells) len (is ∙ ap (λ (v : ℕ). length (text_at all v)) volume))
+    (λ len is. within_text all c.args.spots.now c.args.number one.0 one.1 (c.requires.readable.within tells) len (is ∙ ap (λ (v : ℕ). length (text_at all v)) volume))
 
 pub returns-in-Some-clause-end : goal.returns-in-Some-clause-end
 returns-in-Some-clause-end g c told =
@@ -45,7 +45,7 @@ returns-in-Some-clause-end g c told =
     let all = texts g.D.Disk c.args.self.now.journal in
     let one = spot_there c.args.spots.now c.args.number c.requires.below in
     let volume = c.volume_at-volume.ensures one.0 one.1 in
-    ends_at_next all book c.args.spots.now c.args.number (c.requires.placed told) one.0 one.1 c.in-Some.at
+    ends_at_next all book c.args.spots.now c.args.number (c.requires.readable.placed told) one.0 one.1 c.in-Some.at
     (subst (λ (v : ℕ). IsNextAt c.args.spots.now c.args.number v c.in-Some.at) volume c.in-Some.ensures)
 
 pub returns-in-None-clause-end : goal.returns-in-None-clause-end
@@ -55,8 +55,8 @@ returns-in-None-clause-end g c told =
     let one = spot_there c.args.spots.now c.args.number c.requires.below in
     let volume = c.volume_at-volume.ensures one.0 one.1 in
     if_ok_so (λ (len : ℕ). len ≡ length (text_at all c.volume_at-volume.result)) (EndsGroup book c.args.spots.now c.args.number) c.text_len.result
-    (c.text_len.ensures.len (c.requires.holds.tells told))
-    (λ len is. ends_at_text all book c.args.spots.now c.args.number (c.requires.placed told) one.0 one.1 len
+    (c.text_len.ensures.len (c.requires.readable.holds.tells told))
+    (λ len is. ends_at_text all book c.args.spots.now c.args.number (c.requires.readable.placed told) one.0 one.1 len
     (is ∙ ap (λ (v : ℕ). length (text_at all v)) volume))
 
 pub returns-in-Some-clause-reads : goal.returns-in-Some-clause-reads

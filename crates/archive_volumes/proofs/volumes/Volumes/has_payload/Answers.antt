@@ -16,63 +16,63 @@ use Rattle.archive_volumes.specs.declared.spot.Spot.{Spot}
 use Rattle.archive_volumes.proofs.volumes.Volumes.has_payload.Goals as goal
 
 pub bounds-spots-number : goal.bounds-spots-number
-bounds-spots-number g c = its_bound (book_of c.args.self.now.held) c.args.spots.now c.requires.spots c.args.number c.requires.whole
+bounds-spots-number g c = its_bound (book_of c.args.self.now.held) c.args.spots.now c.requires.readable.are c.args.number c.requires.whole
 
 pub compare_with-requires-clause-place : goal.compare_with-requires-clause-place
 compare_with-requires-clause-place g c tells =
     let book = book_of c.args.self.now.held in
     within_at book c.args.spots.now c.args.number c.index-spots-number.result
-    (its_bound book c.args.spots.now c.requires.spots c.args.number c.requires.whole) c.index-spots-number.is
-    (texts g.D.Disk c.args.self.now.journal) (c.requires.within tells)
+    (its_bound book c.args.spots.now c.requires.readable.are c.args.number c.requires.whole) c.index-spots-number.is
+    (texts g.D.Disk c.args.self.now.journal) (c.requires.readable.within tells)
 
 pub compare_with-requires-clause-ends : goal.compare_with-requires-clause-ends
 compare_with-requires-clause-ends g c =
-    let its = its_spot (book_of c.args.self.now.held) c.args.spots.now c.requires.spots c.args.number c.requires.whole c.index-spots-number.result c.index-spots-number.is in
+    let its = its_spot (book_of c.args.self.now.held) c.args.spots.now c.requires.readable.are c.args.number c.requires.whole c.index-spots-number.result c.index-spots-number.is in
     its.ends
 
 pub compare_with-requires-clause-whole : goal.compare_with-requires-clause-whole
 compare_with-requires-clause-whole g c =
-    its_whole (book_of c.args.self.now.held) c.args.spots.now c.requires.spots c.args.number c.requires.whole c.index-spots-number.result c.index-spots-number.is
+    its_whole (book_of c.args.self.now.held) c.args.spots.now c.requires.readable.are c.args.number c.requires.whole c.index-spots-number.result c.index-spots-number.is
 
 pub has_told_payload-requires-clause-form : goal.has_told_payload-requires-clause-form
 has_told_payload-requires-clause-form g c other at =
     let book = book_of c.args.self.now.held in
     let spot = c.index-spots-number.result in
-    let here = got c.args.spots.now c.args.number spot (its_bound book c.args.spots.now c.requires.spots c.args.number c.requires.whole) c.index-spots-number.is in
+    let here = got c.args.spots.now c.args.number spot (its_bound book c.args.spots.now c.requires.readable.are c.args.number c.requires.whole) c.index-spots-number.is in
     ap (λ (s : Spot). s.form) (same_Some other spot (sym at ∙ here))
-    ∙ its_told book c.args.spots.now c.requires.spots c.args.number c.requires.whole spot c.index-spots-number.is (sym c.is_told.ensures ∙ c.if-is_told.true)
+    ∙ its_told book c.args.spots.now c.requires.readable.are c.args.number c.requires.whole spot c.index-spots-number.is (sym c.is_told.ensures ∙ c.if-is_told.true)
 
 pub returns-in-Same-clause-asks : goal.returns-in-Same-clause-asks
 returns-in-Same-clause-asks g c payload is =
     let book = book_of c.args.self.now.held in
     let read : is_told_form c.index-spots-number.result.form ≡ false = sym c.is_told.ensures ∙ c.if-is_told.false in
-    let keeps = its_wire book c.args.spots.now c.requires.spots c.args.number c.requires.whole c.index-spots-number.result c.index-spots-number.is read in (
+    let keeps = its_wire book c.args.spots.now c.requires.readable.are c.args.number c.requires.whole c.index-spots-number.result c.index-spots-number.is read in (
       keeps,
       λ told.
-          let kept = its_kept book c.args.spots.now c.requires.spots c.args.number c.requires.whole c.index-spots-number.result c.index-spots-number.is read
-          (texts g.D.Disk c.args.self.now.journal) (c.requires.placed told) in
+          let kept = its_kept book c.args.spots.now c.requires.readable.are c.args.number c.requires.whole c.index-spots-number.result c.index-spots-number.is read
+          (texts g.D.Disk c.args.self.now.journal) (c.requires.readable.placed told) in
           has_whole book c.args.number payload keeps
           (subst (λ (r : Compared). ComparesWith book c.args.number payload r) c.in-Same.is
-          (c.in_ok-answer.ensures.compares payload c.args.number is (c.requires.holds.tells told) kept)),
+          (c.in_ok-answer.ensures.compares payload c.args.number is (c.requires.readable.holds.tells told) kept)),
     )
 
 pub returns-in-Other-clause-asks : goal.returns-in-Other-clause-asks
 returns-in-Other-clause-asks g c payload is told does =
     let book = book_of c.args.self.now.held in
     let read : is_told_form c.index-spots-number.result.form ≡ false = sym c.is_told.ensures ∙ c.if-is_told.false in
-    let kept = its_kept book c.args.spots.now c.requires.spots c.args.number c.requires.whole c.index-spots-number.result c.index-spots-number.is read
-    (texts g.D.Disk c.args.self.now.journal) (c.requires.placed told) in
+    let kept = its_kept book c.args.spots.now c.requires.readable.are c.args.number c.requires.whole c.index-spots-number.result c.index-spots-number.is read
+    (texts g.D.Disk c.args.self.now.journal) (c.requires.readable.placed told) in
     subst (λ (r : Compared). ComparesWith book c.args.number payload r) c.in-Other.is
-    (c.in_ok-answer.ensures.compares payload c.args.number is (c.requires.holds.tells told) kept) does.has
+    (c.in_ok-answer.ensures.compares payload c.args.number is (c.requires.readable.holds.tells told) kept) does.has
 
 pub returns-in-Damaged-clause-asks : goal.returns-in-Damaged-clause-asks
 returns-in-Damaged-clause-asks g c payload is =
     let book = book_of c.args.self.now.held in
     let read : is_told_form c.index-spots-number.result.form ≡ false = sym c.is_told.ensures ∙ c.if-is_told.false in
     let never : IsTrue c.args.told.now.value → ⊥ = λ told.
-    let kept = its_kept book c.args.spots.now c.requires.spots c.args.number c.requires.whole c.index-spots-number.result c.index-spots-number.is read
-    (texts g.D.Disk c.args.self.now.journal) (c.requires.placed told) in
-    subst (λ (r : Compared). ComparesWith book c.args.number payload r) c.in-Damaged.is (c.in_ok-answer.ensures.compares payload c.args.number is (c.requires.holds.tells told) kept) in (
+    let kept = its_kept book c.args.spots.now c.requires.readable.are c.args.number c.requires.whole c.index-spots-number.result c.index-spots-number.is read
+    (texts g.D.Disk c.args.self.now.journal) (c.requires.readable.placed told) in
+    subst (λ (r : Compared). ComparesWith book c.args.number payload r) c.in-Damaged.is (c.in_ok-answer.ensures.compares payload c.args.number is (c.requires.readable.holds.tells told) kept) in (
       refl,
       damaged c.args.told.now.value c.index-spots-number.result.digest c.in-Damaged.found never
           (subst (λ (r : Compared). IsComparison c.index-spots-number.result.digest payload r) c.in-Damaged.is (c.in_ok-answer.ensures.comparison payload is)),
@@ -83,7 +83,7 @@ returns-in-Same-clause-there g c tells payload is has =
     let book = book_of c.args.self.now.held in
     let spot = c.index-spots-number.result in
     let all = texts g.D.Disk c.args.self.now.journal in
-    let here = got c.args.spots.now c.args.number spot (its_bound book c.args.spots.now c.requires.spots c.args.number c.requires.whole) c.index-spots-number.is in
+    let here = got c.args.spots.now c.args.number spot (its_bound book c.args.spots.now c.requires.readable.are c.args.number c.requires.whole) c.index-spots-number.is in
     let read : is_told_form spot.form ≡ false = sym c.is_told.ensures ∙ c.if-is_told.false in
     record {
       told = λ other at told. absurd (false≢true (sym read ∙ ap (λ (s : Spot). is_told_form s.form) (same_Some spot other (sym here ∙ at)) ∙ told));
@@ -98,7 +98,7 @@ returns-in-Damaged-clause-damage g c =
     let book = book_of c.args.self.now.held in
     let spot = c.index-spots-number.result in
     let all = texts g.D.Disk c.args.self.now.journal in
-    let here = got c.args.spots.now c.args.number spot (its_bound book c.args.spots.now c.requires.spots c.args.number c.requires.whole) c.index-spots-number.is in
+    let here = got c.args.spots.now c.args.number spot (its_bound book c.args.spots.now c.requires.readable.are c.args.number c.requires.whole) c.index-spots-number.is in
     read_damage all c.args.spots.now book.namespace c.args.number spot g.D.Disk.tells here c.in-Damaged.found (sym c.is_told.ensures ∙ c.if-is_told.false)
     (λ tells. subst (λ (r : Compared). OnDamage r (DecodesThere all spot)) c.in-Damaged.is (c.in_ok-answer.ensures.damage tells))
 
@@ -106,6 +106,6 @@ pub returns-in-Other-clause-passes : goal.returns-in-Other-clause-passes
 returns-in-Other-clause-passes g c payload is _ other at =
     let book = book_of c.args.self.now.held in
     let spot = c.index-spots-number.result in
-    let here = got c.args.spots.now c.args.number spot (its_bound book c.args.spots.now c.requires.spots c.args.number c.requires.whole) c.index-spots-number.is in
+    let here = got c.args.spots.now c.args.number spot (its_bound book c.args.spots.now c.requires.readable.are c.args.number c.requires.whole) c.index-spots-number.is in
     inl (subst (λ (s : Spot). IsOther s.digest payload) (same_Some spot other (sym here ∙ at))
     (subst (λ (r : Compared). IsComparison spot.digest payload r) c.in-Other.is (c.in_ok-answer.ensures.comparison payload is)))

@@ -20,19 +20,19 @@ use Rattle.archive_volumes.specs.declared.spot.Spot.{Spot}
 use Rattle.archive_volumes.proofs.volumes.Volumes.has_told_payload.Goals as goal
 
 pub bounds-spots-number : goal.bounds-spots-number
-bounds-spots-number g c = its_bound (book_of c.args.self.now.held) c.args.spots.now c.requires.spots c.args.number c.requires.whole
+bounds-spots-number g c = its_bound (book_of c.args.self.now.held) c.args.spots.now c.requires.readable.are c.args.number c.requires.whole
 
 pub reread-requires-clause-below : goal.reread-requires-clause-below
-reread-requires-clause-below g c = its_bound (book_of c.args.self.now.held) c.args.spots.now c.requires.spots c.args.number c.requires.whole
+reread-requires-clause-below g c = its_bound (book_of c.args.self.now.held) c.args.spots.now c.requires.readable.are c.args.number c.requires.whole
 
 pub returns-in-Own-default-default-false-clause-asks : goal.returns-in-Own-default-default-false-clause-asks
 returns-in-Own-default-default-false-clause-asks g c payload is =
     let book = book_of c.args.self.now.held in
     let spot = c.index-spots-number.result in
-    let below = its_bound book c.args.spots.now c.requires.spots c.args.number c.requires.whole in
+    let below = its_bound book c.args.spots.now c.requires.readable.are c.args.number c.requires.whole in
     let here = got c.args.spots.now c.args.number spot below c.index-spots-number.is in
-    let its = c.requires.spots.each c.args.number spot here in
-    let own = its_own book c.args.spots.now c.requires.spots c.args.number c.requires.whole spot c.index-spots-number.is in
+    let its = c.requires.readable.are.each c.args.number spot here in
+    let own = its_own book c.args.spots.now c.requires.readable.are c.args.number c.requires.whole spot c.index-spots-number.is in
     let made : IsFalse c.args.told.now.value → KeepsWire book c.args.number = λ untold. (c.requires.made untold).each c.args.number spot here (c.requires.form spot here) in
     let right : IsTrue c.args.told.now.value → IsRereadOf book c.args.number c.in_ok-read.read = c.in_ok-read.ensures.right in
     whole_asked c.args.told.now.value book c.args.number spot its own made payload _ c.in-Own-default-default-false.payload
@@ -44,10 +44,10 @@ pub returns-in-Own-default-default-true-clause-asks : goal.returns-in-Own-defaul
 returns-in-Own-default-default-true-clause-asks g c payload is =
     let book = book_of c.args.self.now.held in
     let spot = c.index-spots-number.result in
-    let below = its_bound book c.args.spots.now c.requires.spots c.args.number c.requires.whole in
+    let below = its_bound book c.args.spots.now c.requires.readable.are c.args.number c.requires.whole in
     let here = got c.args.spots.now c.args.number spot below c.index-spots-number.is in
-    let its = c.requires.spots.each c.args.number spot here in
-    let own = its_own book c.args.spots.now c.requires.spots c.args.number c.requires.whole spot c.index-spots-number.is in
+    let its = c.requires.readable.are.each c.args.number spot here in
+    let own = its_own book c.args.spots.now c.requires.readable.are c.args.number c.requires.whole spot c.index-spots-number.is in
     let made : IsFalse c.args.told.now.value → KeepsWire book c.args.number = λ untold. (c.requires.made untold).each c.args.number spot here (c.requires.form spot here) in
     let right : IsTrue c.args.told.now.value → IsRereadOf book c.args.number c.in_ok-read.read = c.in_ok-read.ensures.right in
     cut_asked c.args.told.now.value book c.args.number spot its own made payload _ _
@@ -58,10 +58,10 @@ pub returns-in-Same-clause-asks : goal.returns-in-Same-clause-asks
 returns-in-Same-clause-asks g c payload is =
     let book = book_of c.args.self.now.held in
     let spot = c.index-spots-number.result in
-    let below = its_bound book c.args.spots.now c.requires.spots c.args.number c.requires.whole in
+    let below = its_bound book c.args.spots.now c.requires.readable.are c.args.number c.requires.whole in
     let here = got c.args.spots.now c.args.number spot below c.index-spots-number.is in
-    let its = c.requires.spots.each c.args.number spot here in
-    let own = its_own book c.args.spots.now c.requires.spots c.args.number c.requires.whole spot c.index-spots-number.is in
+    let its = c.requires.readable.are.each c.args.number spot here in
+    let own = its_own book c.args.spots.now c.requires.readable.are c.args.number c.requires.whole spot c.index-spots-number.is in
     let right : IsTrue c.args.told.now.value → IsRereadOf book c.args.number c.in_ok-read.read = c.in_ok-read.ensures.right in
     revisit_asked c.args.told.now.value book c.args.number payload
     (λ told. no_revisit book c.args.number spot its own _ _ (subst (λ (r : Reread). IsRereadOf book c.args.number r) c.in-Same.is (right told)))
@@ -70,7 +70,7 @@ pub returns-in-Damaged-clause-asks : goal.returns-in-Damaged-clause-asks
 returns-in-Damaged-clause-asks g c payload is =
     let book = book_of c.args.self.now.held in
     let spot = c.index-spots-number.result in
-    let below = its_bound book c.args.spots.now c.requires.spots c.args.number c.requires.whole in
+    let below = its_bound book c.args.spots.now c.requires.readable.are c.args.number c.requires.whole in
     let here = got c.args.spots.now c.args.number spot below c.index-spots-number.is in
     let right : IsTrue c.args.told.now.value → IsRereadOf book c.args.number c.in_ok-read.read = c.in_ok-read.ensures.right in
     subst (λ (s : Spot). Asks c.args.told.now.value book c.args.number payload (Err (stores.Damaged c.args.number s.digest c.in-Damaged.found))) c.index-spots-number.is
@@ -97,7 +97,7 @@ returns-in-Damaged-clause-damage g c =
     let book = book_of c.args.self.now.held in
     let spot = c.index-spots-number.result in
     let all = texts g.D.Disk c.args.self.now.journal in
-    let here = got c.args.spots.now c.args.number spot (its_bound book c.args.spots.now c.requires.spots c.args.number c.requires.whole) c.index-spots-number.is in
+    let here = got c.args.spots.now c.args.number spot (its_bound book c.args.spots.now c.requires.readable.are c.args.number c.requires.whole) c.index-spots-number.is in
     subst (λ (s : Spot). TellsDamage g.D.Disk.tells all book.namespace c.args.spots.now (stores.Damaged c.args.number s.digest c.in-Damaged.found))
     c.index-spots-number.is
     (told_damage all c.args.spots.now book.namespace c.args.number spot g.D.Disk.tells here c.in-Damaged.found (ap is_told_form (c.requires.form spot here))

@@ -22,12 +22,12 @@ pub returns-then-has_no_bytes-clause-looks : goal.returns-then-has_no_bytes-clau
 returns-then-has_no_bytes-clause-looks g c payload is =
     let book = book_of c.args.self.now.held in
     let empty = (c.has_no_bytes.ensures payload is).0 c.if-has_no_bytes.true in
-    (right_empty c.args.told.now.value book c.args.spots.now c.requires.spots payload c.args.looked (c.requires.right payload is) empty, c.requires.spots.count)
+    (right_empty c.args.told.now.value book c.args.spots.now c.requires.readable.are payload c.args.looked (c.requires.right payload is) empty, c.requires.readable.are.count)
 
 pub returns-in-Some-clause-looks : goal.returns-in-Some-clause-looks
 returns-in-Some-clause-looks g c payload is =
     let book = book_of c.args.self.now.held in
-    (right_found c.args.told.now.value book c.args.spots.now c.requires.spots payload c.args.looked (c.requires.right payload is) c.in-Some.same c.in-Some.is, c.requires.spots.count)
+    (right_found c.args.told.now.value book c.args.spots.now c.requires.readable.are payload c.args.looked (c.requires.right payload is) c.in-Some.same c.in-Some.is, c.requires.readable.are.count)
 
 pub returns-in_err-same-in-None-clause-looks : goal.returns-in_err-same-in-None-clause-looks
 returns-in_err-same-in-None-clause-looks g c payload is =
@@ -35,7 +35,7 @@ returns-in_err-same-in-None-clause-looks g c payload is =
     let fault : StoreFault = c.in_err-same-in-None.field-0.0 in
     let whole = candidates_whole c.args.looked.upto payload c.args.spots.now c.args.candidates.now (c.requires.candidates payload is) in
     looks_exit c.args.told.now.value book payload fault c.from_residual.result c.from_residual.ensures.1
-    (looks_err c.args.told.now.value book c.args.spots.now c.requires.spots c.args.candidates.now payload whole fault (c.in_err-same-in-None.ensures.chooses payload is))
+    (looks_err c.args.told.now.value book c.args.spots.now c.requires.readable.are c.args.candidates.now payload whole fault (c.in_err-same-in-None.ensures.chooses payload is))
 
 pub returns-in_err-same-in-None-clause-since : goal.returns-in_err-same-in-None-clause-since
 returns-in_err-same-in-None-clause-since g c =
@@ -51,10 +51,10 @@ pub returns-in_ok-same-in-None-clause-looks : goal.returns-in_ok-same-in-None-cl
 returns-in_ok-same-in-None-clause-looks g c payload is =
     let book = book_of c.args.self.now.held in
     let some : payload ≢ [] = λ none. false≢true (sym c.if-has_no_bytes.false ∙ (c.has_no_bytes.ensures payload is).1 none) in (
-      right_chosen c.args.told.now.value book c.args.spots.now c.requires.spots payload c.args.looked (c.requires.right payload is)
-          c.captures_have_one_payload.ensures (texts g.D.Disk c.args.self.now.journal) c.requires.placed c.requires.holds.sound
+      right_chosen c.args.told.now.value book c.args.spots.now c.requires.readable.are payload c.args.looked (c.requires.right payload is)
+          c.captures_have_one_payload.ensures (texts g.D.Disk c.args.self.now.journal) c.requires.readable.placed c.requires.readable.holds.sound
           c.args.candidates.now (c.requires.candidates payload is) c.requires.rising some c.in-None.is c.in_ok-same-in-None.same (c.in_ok-same-in-None.ensures.chooses payload is),
-      c.requires.spots.count,
+      c.requires.readable.are.count,
     )
 
 pub returns-in_ok-same-in-None-clause-digest : goal.returns-in_ok-same-in-None-clause-digest

@@ -3,29 +3,15 @@ use Rattle.std.specs.Prelude.{IfSome}
 use Rattle.sha1.specs.Sha1.{sha1}
 use Rattle.capture.specs.declared.book.Book.{Book}
 use Rattle.archive_shelf.specs.Comparing.{KeepsWire}
-use Rattle.archive_volumes.proofs.BringLaws.{placed_on, reads_then, spots_on, within_on}
+use Rattle.archive_volumes.proofs.BringLaws.{readable_on, reads_then}
 use Rattle.archive_volumes.proofs.OriginalLaws.{found_here, not_here}
 use Rattle.archive_volumes.specs.Held.{book_of}
 use Rattle.archive_volumes.specs.Rereading.{HasItsPayload, TellsOf, id_of_response}
 use Rattle.archive_volumes.proofs.volumes.Volumes.original_payload.Goals as goal
 
-pub told_payload-requires-clause-holds : goal.told_payload-requires-clause-holds
-told_payload-requires-clause-holds g c = c.loop-candidate.invariant.reads.holds c.args.told.now.value c.requires.holds
-
-pub told_payload-requires-clause-measured : goal.told_payload-requires-clause-measured
-told_payload-requires-clause-measured g c = c.loop-candidate.invariant.reads.measured c.requires.measured
-
-pub told_payload-requires-clause-spots : goal.told_payload-requires-clause-spots
-told_payload-requires-clause-spots g c =
-    spots_on g.D.Disk c.args.self.now c.loop-candidate.self c.loop-candidate.invariant.reads c.args.spots.now c.requires.spots
-
-pub told_payload-requires-clause-within : goal.told_payload-requires-clause-within
-told_payload-requires-clause-within g c tells =
-    within_on g.D.Disk c.args.self.now c.loop-candidate.self c.loop-candidate.invariant.reads tells c.args.spots.now (c.requires.within tells)
-
-pub told_payload-requires-clause-placed : goal.told_payload-requires-clause-placed
-told_payload-requires-clause-placed g c told =
-    placed_on g.D.Disk c.args.self.now c.loop-candidate.self c.loop-candidate.invariant.reads (c.requires.holds.tells told) c.args.spots.now (c.requires.placed told)
+pub told_payload-requires-clause-readable : goal.told_payload-requires-clause-readable
+told_payload-requires-clause-readable g c =
+    readable_on g.D.Disk c.args.told.now.value c.args.self.now c.loop-candidate.self c.loop-candidate.invariant.reads c.args.spots.now c.requires.readable
 
 pub loop-candidate-preserved : goal.loop-candidate-preserved
 loop-candidate-preserved g c =

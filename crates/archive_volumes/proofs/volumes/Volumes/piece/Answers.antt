@@ -21,7 +21,7 @@ returns-in-Err-clause-gives g c =
       refl,
       damaged c.args.told.now.value spot.digest c.in-Err.found
           (λ told. never_other book c.args.number all spot
-          (place_at book c.args.spots.now c.args.number spot c.requires.below c.index-spots-number.is all (c.requires.placed told))
+          (place_at book c.args.spots.now c.args.number spot c.requires.below c.index-spots-number.is all (c.requires.readable.placed told))
           c.in_ok-read.read c.in-Err.found is (c.in_ok-read.ensures.exact told))
           (other_bytes spot.digest c.in_ok-read.read c.in-Err.found is),
     )
@@ -57,7 +57,7 @@ returns-in_ok-with_front-in-Ok-clause-kept g c other at =
     subst (λ (k : KeptGroup). IsSomeGroup book.namespace c.args.number k) tells.1 c.in_ok-read.ensures.some in
     let front : HasFront book c.args.number group piece =
     subst (λ (b : Book). HasFront b c.args.number group piece) (ap book_of c.read_group.ensures.reads.held) c.in_ok-with_front-in-Ok.ensures in
-    piece_by_digest book c.args.number other (c.requires.spots.each c.args.number other at) group piece tells.0 told front
+    piece_by_digest book c.args.number other (c.requires.readable.are.each c.args.number other at) group piece tells.0 told front
     (tells.2 ∙ ap (λ (s : Spot). s.digest) (one_spot c.args.spots.now c.args.number spot other
     (got c.args.spots.now c.args.number spot c.requires.below c.index-spots-number.is) at))
 
@@ -65,12 +65,12 @@ pub returns-in-Err-clause-digests : goal.returns-in-Err-clause-digests
 returns-in-Err-clause-digests g c =
     let spot = c.index-spots-number.result in
     let here = got c.args.spots.now c.args.number spot c.requires.below c.index-spots-number.is in
-    piece_by_keeper (book_of c.args.self.now.held) c.args.number spot (c.requires.spots.each c.args.number spot here)
+    piece_by_keeper (book_of c.args.self.now.held) c.args.number spot (c.requires.readable.are.each c.args.number spot here)
     (Err (brings.Damaged c.args.number spot.digest c.in-Err.found)) (returns-in-Err-clause-kept g c spot here)
 
 pub returns-in_ok-with_front-in-Ok-clause-digests : goal.returns-in_ok-with_front-in-Ok-clause-digests
 returns-in_ok-with_front-in-Ok-clause-digests g c =
     let spot = c.index-spots-number.result in
     let here = got c.args.spots.now c.args.number spot c.requires.below c.index-spots-number.is in
-    piece_by_keeper (book_of c.args.self.now.held) c.args.number spot (c.requires.spots.each c.args.number spot here)
+    piece_by_keeper (book_of c.args.self.now.held) c.args.number spot (c.requires.readable.are.each c.args.number spot here)
     (Ok c.in_ok-with_front-in-Ok.field-0) (returns-in_ok-with_front-in-Ok-clause-kept g c spot here)

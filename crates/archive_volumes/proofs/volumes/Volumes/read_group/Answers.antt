@@ -8,5 +8,5 @@ use Rattle.archive_volumes.proofs.volumes.Volumes.read_group.Goals as goal
 pub returns-clause-exact : goal.returns-clause-exact
 returns-clause-exact g c told =
     let book = book_of c.args.self.now.held in
-    read_is book c.args.number (c.requires.holds.sound told) c.in_ok-bytes.bytes.items (c.in_ok-bytes.ensures.begins told) c.in_ok-kept.kept
+    read_is book c.args.number (c.requires.readable.holds.sound told) c.in_ok-bytes.bytes.items (c.in_ok-bytes.ensures.begins told) c.in_ok-kept.kept
     (subst (λ (h : Held). IsFirstIn h.namespace c.args.number c.in_ok-bytes.bytes.items c.in_ok-kept.kept) c.read_text.ensures.reads.held c.in_ok-kept.ensures)

@@ -21,7 +21,7 @@ returns-then-is_told-clause-right g c told =
     let book = book_of c.args.self.now.held in
     let spot = c.index-spots-number.result in
     let here = got c.args.spots.now c.args.number spot c.requires.below c.index-spots-number.is in
-    let its = c.requires.spots.each c.args.number spot here in
+    let its = c.requires.readable.are.each c.args.number spot here in
     subst (IsReadRight book c.args.number) (sym c.own_read.ensures)
     (own_right book c.args.number spot its (c.requires.own spot here) c.in_ok-read.read (c.in_ok-read.ensures.right told))
 
@@ -29,13 +29,13 @@ pub read_back-requires-clause-place : goal.read_back-requires-clause-place
 read_back-requires-clause-place g c tells =
     let spot = c.index-spots-number.result in
     let here = got c.args.spots.now c.args.number spot c.requires.below c.index-spots-number.is in
-    (c.requires.within tells).each c.args.number spot here
+    (c.requires.readable.within tells).each c.args.number spot here
 
 pub read_back-requires-clause-ends : goal.read_back-requires-clause-ends
 read_back-requires-clause-ends g c =
     let spot = c.index-spots-number.result in
     let here = got c.args.spots.now c.args.number spot c.requires.below c.index-spots-number.is in
-    let its = c.requires.spots.each c.args.number spot here in
+    let its = c.requires.readable.are.each c.args.number spot here in
     its.ends
 
 pub returns-clause-checked : goal.returns-clause-checked
@@ -48,10 +48,10 @@ pub returns-clause-right : goal.returns-clause-right
 returns-clause-right g c told =
     let spot = c.index-spots-number.result in
     let here = got c.args.spots.now c.args.number spot c.requires.below c.index-spots-number.is in
-    let its = c.requires.spots.each c.args.number spot here in
+    let its = c.requires.readable.are.each c.args.number spot here in
     let read : is_told_form spot.form ≡ false = sym c.is_told.ensures ∙ c.if-is_told.false in
-    c.read_back.ensures.right c.args.number (c.requires.holds.tells told)
-    (record { is = its; placed = (c.requires.placed told).each c.args.number spot here; own = c.requires.own spot here; read = read })
+    c.read_back.ensures.right c.args.number (c.requires.readable.holds.tells told)
+    (record { is = its; placed = (c.requires.readable.placed told).each c.args.number spot here; own = c.requires.own spot here; read = read })
 
 pub returns-then-is_told-clause-there : goal.returns-then-is_told-clause-there
 returns-then-is_told-clause-there g c tells other at =

@@ -18,7 +18,7 @@ read_part-requires-clause-there g c tells =
     let here : slice_get c.args.spots.now c.args.number ≡ Some spot = got c.args.spots.now c.args.number spot c.requires.below c.index-spots-number.is in
     let same = texts_stay g.D.Disk old c.group_end.new.self c.group_end.ensures.reads tells in
     subst (λ (all : List (List ℕ)). spot.volume < length all) (sym same)
-    (there (texts g.D.Disk old.journal) c.args.spots.now c.args.number (c.requires.within tells) spot here)
+    (there (texts g.D.Disk old.journal) c.args.spots.now c.args.number (c.requires.readable.within tells) spot here)
 
 pub read_part-requires-clause-within : goal.read_part-requires-clause-within
 read_part-requires-clause-within g c tells =
@@ -28,7 +28,7 @@ read_part-requires-clause-within g c tells =
     let same = texts_stay g.D.Disk old c.group_end.new.self c.group_end.ensures.reads tells in
     subst (λ (all : List (List ℕ)). spot.at + c.saturating_sub.result ≤ length (text_at all spot.volume)) (sym same)
     (subst (λ (long : ℕ). spot.at + long ≤ length (text_at (texts g.D.Disk old.journal) spot.volume)) (sym c.saturating_sub.ensures)
-    (within (texts g.D.Disk old.journal) c.args.spots.now c.args.number (c.requires.within tells) spot here c.in_ok-end.end (c.in_ok-end.ensures.within tells)))
+    (within (texts g.D.Disk old.journal) c.args.spots.now c.args.number (c.requires.readable.within tells) spot here c.in_ok-end.end (c.in_ok-end.ensures.within tells)))
 
 pub returns-clause-begins : goal.returns-clause-begins
 returns-clause-begins g c told =
@@ -36,12 +36,12 @@ returns-clause-begins g c told =
     let book = book_of old.held in
     let spot = c.index-spots-number.result in
     let all = texts g.D.Disk old.journal in
-    let tells = c.requires.holds.tells told in
+    let tells = c.requires.readable.holds.tells told in
     let here : slice_get c.args.spots.now c.args.number ≡ Some spot = got c.args.spots.now c.args.number spot c.requires.below c.index-spots-number.is in
     let same = texts_stay g.D.Disk old c.group_end.new.self c.group_end.ensures.reads tells in
     if_ok_so _ (λ bytes. BeginWithText book c.args.number bytes.items) c.read_part.result (c.read_part.ensures.bytes tells)
-    (λ bytes is. begins_is book all c.args.spots.now c.args.number (c.requires.placed told) spot here c.in_ok-end.end (c.in_ok-end.ensures.end told)
-    (c.requires.holds.sound told) (c.requires.holds.texts_are told) bytes.items
+    (λ bytes is. begins_is book all c.args.spots.now c.args.number (c.requires.readable.placed told) spot here c.in_ok-end.end (c.in_ok-end.ensures.end told)
+    (c.requires.readable.holds.sound told) (c.requires.readable.holds.texts_are told) bytes.items
     (is ∙ ap (λ (t : List (List ℕ)). part (text_at t spot.volume) spot.at c.saturating_sub.result) same
     ∙ ap (part (text_at all spot.volume) spot.at) c.saturating_sub.ensures))
 

@@ -35,10 +35,10 @@ returns-clause-right g c told =
     let book = book_of c.args.self.now.held in
     let spot = c.index-spots-number.result in
     let here = got c.args.spots.now c.args.number spot c.requires.below c.index-spots-number.is in
-    let place = (c.requires.placed told).each c.args.number spot here in
+    let place = (c.requires.readable.placed told).each c.args.number spot here in
     let given : c.as_slice.result.now ≡ c.in_ok-bytes.bytes.items = search rules in
-    reread_right book (c.requires.holds.sound told) c.args.number c.in_ok-bytes.bytes.items (c.in_ok-bytes.ensures.begins told) spot
-    (c.requires.spots.each c.args.number spot here) place.payload place.has place.digest c.in_ok-read.read
+    reread_right book (c.requires.readable.holds.sound told) c.args.number c.in_ok-bytes.bytes.items (c.in_ok-bytes.ensures.begins told) spot
+    (c.requires.readable.are.each c.args.number spot here) place.payload place.has place.digest c.in_ok-read.read
     (subst (λ (b : List ℕ). IsRereadIn book.namespace c.args.number b spot c.in_ok-read.read) given
     (subst (λ (h : Held). IsRereadIn h.namespace c.args.number c.as_slice.result.now spot c.in_ok-read.read) c.read_text.ensures.reads.held
     c.in_ok-read.ensures.by))

@@ -13,10 +13,10 @@ use Rattle.archive_volumes.specs.declared.spot.Spot.{Spot}
 use Rattle.archive_volumes.proofs.volumes.Volumes.whole_payload.Goals as goal
 
 pub bounds-spots-number : goal.bounds-spots-number
-bounds-spots-number g c = its_bound (book_of c.args.self.now.held) c.args.spots.now c.requires.spots c.args.number c.requires.whole
+bounds-spots-number g c = its_bound (book_of c.args.self.now.held) c.args.spots.now c.requires.readable.are c.args.number c.requires.whole
 
 pub reread-requires-clause-below : goal.reread-requires-clause-below
-reread-requires-clause-below g c = its_bound (book_of c.args.self.now.held) c.args.spots.now c.requires.spots c.args.number c.requires.whole
+reread-requires-clause-below g c = its_bound (book_of c.args.self.now.held) c.args.spots.now c.requires.readable.are c.args.number c.requires.whole
 
 pub returns-then-is_told-clause-kept : goal.returns-then-is_told-clause-kept
 returns-then-is_told-clause-kept g c other at =
@@ -33,24 +33,24 @@ pub read_back-requires-clause-place : goal.read_back-requires-clause-place
 read_back-requires-clause-place g c tells =
     let book = book_of c.args.self.now.held in
     let spot = c.index-spots-number.result in
-    let below = its_bound book c.args.spots.now c.requires.spots c.args.number c.requires.whole in
+    let below = its_bound book c.args.spots.now c.requires.readable.are c.args.number c.requires.whole in
     let here = got c.args.spots.now c.args.number spot below c.index-spots-number.is in
-    (c.requires.within tells).each c.args.number spot here
+    (c.requires.readable.within tells).each c.args.number spot here
 
 pub read_back-requires-clause-ends : goal.read_back-requires-clause-ends
 read_back-requires-clause-ends g c =
     let book = book_of c.args.self.now.held in
     let spot = c.index-spots-number.result in
-    let below = its_bound book c.args.spots.now c.requires.spots c.args.number c.requires.whole in
+    let below = its_bound book c.args.spots.now c.requires.readable.are c.args.number c.requires.whole in
     let here = got c.args.spots.now c.args.number spot below c.index-spots-number.is in
-    let its = c.requires.spots.each c.args.number spot here in
+    let its = c.requires.readable.are.each c.args.number spot here in
     its.ends
 
 pub returns-clause-kept : goal.returns-clause-kept
 returns-clause-kept g c other at =
     let book = book_of c.args.self.now.held in
     let spot = c.index-spots-number.result in
-    let below = its_bound book c.args.spots.now c.requires.spots c.args.number c.requires.whole in
+    let below = its_bound book c.args.spots.now c.requires.readable.are c.args.number c.requires.whole in
     let here = got c.args.spots.now c.args.number spot below c.index-spots-number.is in
     subst (λ (f : Option (List ℕ)). IfSome f (λ payload. sha1 payload ≡ other.digest)) (sym c.right_of.ensures)
     (subst (λ (s : Spot). IfSome (right_by c.in_ok-back.back) (λ payload. sha1 payload ≡ s.digest)) (one_spot c.args.spots.now c.args.number spot other here at)
@@ -63,6 +63,6 @@ returns-clause-right g c told keeps =
     let read : is_told_form spot.form ≡ false = sym c.is_told.ensures ∙ c.if-is_told.false in
     subst (HasItsPayload book c.args.number) (sym c.right_of.ensures)
     (right_found book c.args.number c.in_ok-back.back
-    (c.in_ok-back.ensures.right c.args.number (c.requires.holds.tells told)
-    (its_kept book c.args.spots.now c.requires.spots c.args.number c.requires.whole spot c.index-spots-number.is read
-    (texts g.D.Disk c.args.self.now.journal) (c.requires.placed told))))
+    (c.in_ok-back.ensures.right c.args.number (c.requires.readable.holds.tells told)
+    (its_kept book c.args.spots.now c.requires.readable.are c.args.number c.requires.whole spot c.index-spots-number.is read
+    (texts g.D.Disk c.args.self.now.journal) (c.requires.readable.placed told))))
