@@ -14,7 +14,7 @@ use Rattle.archive_shelf.specs.Told.{WritesNothing}
 use Rattle.archive_shelf.specs.declared.fault.StoreFault.{StoreFault}
 use Rattle.archive_shelf.specs.declared.fault.StoreFault.TheVariants as stores
 use Rattle.archive_shelf.specs.declared.receipt.Receipt.{Receipt}
-use Rattle.archive_volumes.specs.Choosing.{is_look_fault}
+use Rattle.archive_payloads.specs.Choosing.{is_look_fault}
 use Rattle.archive_core.specs.Holdings.{Holdings, contents_of}
 use Rattle.archive_core.specs.Looking.{LooksFor, OnlyLooks}
 use Rattle.archive_core.specs.Stores.{Admits, Stores}

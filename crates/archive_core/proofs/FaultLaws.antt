@@ -4,8 +4,8 @@ use Rattle.std.specs.Prelude.{IsErrAnd, ⊤}
 use Rattle.archive_shelf.specs.Contents.{Contents}
 use Rattle.archive_shelf.specs.declared.fault.StoreFault.{StoreFault}
 use Rattle.archive_shelf.specs.declared.fault.StoreFault.TheVariants as stores
-use Rattle.archive_volumes.proofs.SinceLaws.{since_exit}
-use Rattle.archive_volumes.specs.Choosing.{NoneDamagedBelow}
+use Rattle.archive_payloads.proofs.SinceLaws.{since_exit}
+use Rattle.archive_payloads.specs.Choosing.{NoneDamagedBelow}
 use Rattle.archive_core.specs.Stores.{Admits}
 
 since_full : (T : Type 0) (now : Contents) (from : ℕ) (fault : StoreFault) → Admits {T = ⊤} now (Err fault) → NoneDamagedBelow {T = T} from (Err fault)

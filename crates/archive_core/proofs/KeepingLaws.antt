@@ -20,7 +20,7 @@ use Rattle.checkpoint.specs.declared.fault.CheckpointFault.{CheckpointFault}
 use Rattle.checkpoint.specs.declared.fault.CheckpointFault.TheVariants as checkpoints
 use Rattle.archive_shelf.specs.Openings.{ImageStandsFor}
 use Rattle.archive_volumes.proofs.ChangeLaws.{DiskLaws, moment_told}
-use Rattle.archive_volumes.specs.Bringing.{OnlyReads}
+use Rattle.archive_reading.specs.Bringing.{OnlyReads}
 use Rattle.archive_volumes.specs.Held.{book_of}
 use Rattle.archive_volumes.specs.Volumes.{HoldsBook, IsMeasured, IsQuiet, crash_of, muted}
 use Rattle.archive_volumes.specs.declared.held.Held.{Held}

@@ -24,7 +24,7 @@ use Rattle.warc_journal.specs.declared.journal.Journal.{Journal}
 use Rattle.archive_shelf.specs.Storing.{is_revisit}
 use Rattle.archive_core.proofs.ArchiveLaws.{entries_shown}
 use Rattle.archive_opening.specs.Gathering.{AreAllRead, AreNamed, GroupWasRead, IsInStepWith, IsUsable}
-use Rattle.archive_volumes.proofs.ChooseLaws.{there_is}
+use Rattle.archive_payloads.proofs.ChooseLaws.{there_is}
 use Rattle.archive_volumes.specs.Held.{book_of}
 use Rattle.archive_core.specs.Finished.{AreLinedTo, FirstAreFinished, HasCheckpoint}
 use Rattle.archive_core.specs.Holdings.{AreLimits, IsArchive}

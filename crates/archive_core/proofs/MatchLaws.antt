@@ -19,11 +19,11 @@ use Rattle.archive_shelf.specs.Laws.{LookedStaysRight}
 use Rattle.archive_shelf.specs.declared.fault.StoreFault.{StoreFault}
 use Rattle.archive_shelf.specs.declared.fault.StoreFault.TheVariants as stores
 use Rattle.archive_shelf.specs.declared.looked.Looked.{Looked}
-use Rattle.archive_volumes.specs.Choosing.{LooksOn}
-use Rattle.archive_volumes.specs.Decoding.{TellsFraming}
+use Rattle.archive_payloads.specs.Choosing.{LooksOn}
+use Rattle.archive_reading.specs.Decoding.{TellsFraming}
 use Rattle.archive_core.specs.Matching.{FindsAmongAll, IsFramedBy}
 use Rattle.archive_core.specs.Looking.{IsDigestOf, IsRightOf, LooksFor, RefersTo}
-use Rattle.archive_volumes.proofs.DecodeLaws.{one_framing}
+use Rattle.archive_reading.proofs.DecodeLaws.{one_framing}
 use Rattle.archive_core.proofs.PayloadLaws.{HasOne, has_one, one_payload}
 
 -- ---- the payload of a capture that fits

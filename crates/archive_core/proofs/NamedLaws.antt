@@ -10,8 +10,8 @@ use Rattle.httparse.specs.Grammar.{ResponseHead}
 use Rattle.warc_text.proofs.BookLaws.{get_behind}
 use Rattle.archive_shelf.proofs.EntryLaws.{contains_entry}
 use Rattle.archive_shelf.specs.Answers.{BringsAsShown, IsNamed}
-use Rattle.archive_volumes.proofs.ChooseLaws.{there_is}
-use Rattle.archive_volumes.specs.Digests.{BringsDigest}
+use Rattle.archive_payloads.proofs.ChooseLaws.{there_is}
+use Rattle.archive_reading.specs.Digests.{BringsDigest}
 use Rattle.archive_volumes.specs.Entries.{EntersAs, entered}
 use Rattle.archive_volumes.specs.Held.{stored_in}
 use Rattle.archive_volumes.specs.Ready.{record_in, spot_in}

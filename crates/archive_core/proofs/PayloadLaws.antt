@@ -8,7 +8,7 @@ use Rattle.capture.specs.WellFormed.{RespondsTo}
 use Rattle.capture.specs.declared.captured.Taken.{Taken}
 use Rattle.capture.specs.declared.framing.Framing.{Framing}
 use Rattle.warc_text.specs.Fits.{Fits}
-use Rattle.archive_volumes.proofs.DecodeLaws.{one_framing}
+use Rattle.archive_reading.proofs.DecodeLaws.{one_framing}
 
 -- there is one
 pub record HasOne (cut : Bool) (method head wire : List ℕ) : Type 0 where

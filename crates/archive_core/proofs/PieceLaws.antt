@@ -10,8 +10,8 @@ use Rattle.warc_journal.specs.declared.journal.Journal.{Journal}
 use Rattle.archive_shelf.specs.Pieces.{GivesPiece}
 use Rattle.archive_shelf.specs.declared.fault.BringFault.{BringFault}
 use Rattle.archive_shelf.specs.declared.fault.BringFault.TheVariants as brings
-use Rattle.archive_volumes.proofs.ChooseLaws.{there_is}
-use Rattle.archive_volumes.specs.KeptGroups.{GivesPieceFrom}
+use Rattle.archive_payloads.proofs.ChooseLaws.{there_is}
+use Rattle.archive_reading.specs.KeptGroups.{GivesPieceFrom}
 use Rattle.archive_volumes.specs.Volumes.{IsMeasured}
 use Rattle.archive_volumes.specs.declared.spot.Spot.{Spot}
 use Rattle.archive_core.proofs.NamedLaws.{digest_shown}

@@ -21,19 +21,19 @@ use Rattle.archive_shelf.specs.declared.fault.BringFault.TheVariants as brings
 use Rattle.archive_volumes.proofs.ChangeLaws.{DiskLaws, laws_muted}
 use Rattle.archive_volumes.proofs.StoreLaws.{quiet_itself}
 use Rattle.archive_volumes.proofs.WrittenLaws.{rests_itself}
-use Rattle.archive_volumes.specs.Bringing.{BringsFrom, CanReadBy, OnlyReads}
+use Rattle.archive_reading.specs.Bringing.{BringsFrom, OnlyReads}
+use Rattle.archive_volumes.specs.Volumes.{CanReadBy, HoldsBook, IsMeasured, IsQuiet, muted}
 use Rattle.archive_volumes.specs.Held.{book_of}
 use Rattle.archive_core.proofs.FinishedLaws.{first_stay}
 use Rattle.archive_core.specs.Finished.{FirstAreFinished}
 use Rattle.archive_core.specs.Holdings.{Holdings, IsArchive, contents_of}
 use Rattle.archive_core.specs.Looking.{OnlyLooks}
 use Rattle.archive_volumes.specs.Spots.{AreHeldWhole, ArePlaced, AreSpotsOf, AreWithin}
-use Rattle.archive_volumes.specs.Volumes.{HoldsBook, IsMeasured, IsQuiet, muted}
 use Rattle.archive_volumes.specs.declared.volumes.Volumes.{Volumes}
 use Rattle.archive_core.proofs.ShownLaws.{shown_from}
 use Rattle.archive_core.proofs.TellingLaws.{quiet_muted}
 use Rattle.archive_core.proofs.NamedLaws.{as_shown}
-use Rattle.archive_volumes.specs.Digests.{BringsDigest}
+use Rattle.archive_reading.specs.Digests.{BringsDigest}
 use Rattle.archive_volumes.specs.declared.spot.Spot.{Spot}
 
 -- what is read of an archive goes by its spots

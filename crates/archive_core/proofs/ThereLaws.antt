@@ -8,8 +8,8 @@ use Rattle.warc_journal.specs.Journals.{texts}
 use Rattle.archive_shelf.specs.declared.fault.StoreFault.{StoreFault}
 use Rattle.archive_shelf.specs.declared.looked.Looked.{Looked}
 use Rattle.archive_shelf.specs.declared.receipt.Receipt.{Receipt}
-use Rattle.archive_volumes.specs.Choosing.{IsKeptWith}
-use Rattle.archive_volumes.specs.Rereading.{IsChosenThere}
+use Rattle.archive_payloads.specs.Choosing.{IsKeptWith}
+use Rattle.archive_reading.specs.Rereading.{IsChosenThere}
 use Rattle.archive_core.specs.Holdings.{Holdings}
 use Rattle.archive_core.specs.Looking.{IsFoundThere, RefersThere}
 use Rattle.archive_core.proofs.MatchLaws.{Has}

@@ -4,8 +4,8 @@ use Rattle.capture.specs.declared.captured.Brought.{Brought}
 use Rattle.disk_model.specs.declared.disk.Disk.{Ghosts}
 use Rattle.warc_journal.specs.Journals.{texts}
 use Rattle.archive_shelf.specs.declared.fault.BringFault.{BringFault}
-use Rattle.archive_volumes.specs.KeptGroups.{PieceGoesByKept}
-use Rattle.archive_volumes.specs.Rereading.{IsBroughtThere}
+use Rattle.archive_reading.specs.KeptGroups.{PieceGoesByKept}
+use Rattle.archive_reading.specs.Rereading.{IsBroughtThere}
 use Rattle.archive_volumes.specs.declared.spot.Spot.{Spot}
 use Rattle.archive_core.specs.Holdings.{Holdings}
 

@@ -14,8 +14,8 @@ use Rattle.archive_shelf.specs.Told.{WritesNothing}
 use Rattle.archive_shelf.specs.declared.fault.StoreFault.{StoreFault}
 use Rattle.archive_shelf.specs.declared.fault.StoreFault.TheVariants as stores
 use Rattle.archive_shelf.specs.declared.looked.Looked.{Looked}
-use Rattle.archive_volumes.specs.Choosing.{IsKeptWith}
-use Rattle.archive_volumes.specs.Rereading.{IsChosenThere}
+use Rattle.archive_payloads.specs.Choosing.{IsKeptWith}
+use Rattle.archive_reading.specs.Rereading.{IsChosenThere}
 use Rattle.archive_core.specs.Holdings.{Holdings}
 use Rattle.archive_core.specs.Told.{told_of}
 

@@ -5,7 +5,7 @@ ghost use Rattle.warc_journal.specs.Journals.{disk_of};
 ghost use Rattle.warc_text.specs.Sound.{IsSound};
 ghost use Rattle.archive_shelf.specs.Answers.{CountsIf};
 ghost use Rattle.archive_shelf.specs.Comparing.{IsRight};
-ghost use Rattle.archive_volumes.specs.Choosing.{LooksOn, NoneDamagedBelow, is_look_fault};
+ghost use Rattle.archive_payloads.specs.Choosing.{LooksOn, NoneDamagedBelow, is_look_fault};
 ghost use Rattle.archive_core.specs.Holdings.{contents_of};
 ghost use Rattle.archive_core.specs.Looking.{IsDigestOf, IsFoundThere, IsRightOf, Looks, LooksFor, OnlyLooks, RefersThere};
 ghost use Rattle.capture.specs.Body.{IsWire};
@@ -15,8 +15,9 @@ ghost use Rattle.warc_text.specs.Fits.{Fits};
 ghost use Rattle.archive_core.specs.Matching.{FindsAmongAll, IsFramedBy};
 
 use crate::Archive;
+use archive_payloads::look_on_wire;
+use archive_reading::framing_behind;
 use archive_shelf::{Looked, StoreFault};
-use archive_volumes::framing_behind;
 use capture::{Digest, Framing, Memory, Taken, wires_have_one_payload};
 use disk_model::Disk;
 use message_body::{Payload, PayloadFault, Slices, payload_in};
@@ -46,9 +47,10 @@ impl<D: Disk> Archive<D> {
         ensures sound { IsTrue self.new.told → IsSound self.new.book }
     {
         let candidates = self.table.candidates_from(digest, looked.upto);
-        self.volumes.look_on_wire(
+        look_on_wire(
             &self.told,
             alloc,
+            &mut self.volumes,
             self.spots.as_slice(),
             candidates,
             framing,

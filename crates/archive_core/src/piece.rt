@@ -8,6 +8,7 @@ ghost use Rattle.archive_core.specs.Holdings.{contents_of};
 ghost use Rattle.archive_core.specs.Looking.{OnlyLooks};
 
 use crate::Archive;
+use archive_reading::piece;
 use archive_shelf::BringFault;
 use capture::Bytes;
 use disk_model::Disk;
@@ -26,7 +27,12 @@ impl<D: Disk> Archive<D> {
         if number >= count {
             return Err(BringFault::NoSuch { count });
         }
-        self.volumes
-            .piece(&self.told, alloc, self.spots.as_slice(), number)
+        piece(
+            &self.told,
+            alloc,
+            &mut self.volumes,
+            self.spots.as_slice(),
+            number,
+        )
     }
 }

@@ -3,7 +3,7 @@ ghost use Rattle.std.specs.Prelude.{◌≡◌, ◌≤◌, ◌+◌, ◌-◌, ◌<
 ghost use Rattle.disk_model.specs.Crash.{Leaves};
 ghost use Rattle.warc_journal.specs.Journals.{disk_of};
 ghost use Rattle.checkpoint.specs.Faults.{CountsDisk};
-ghost use Rattle.archive_volumes.specs.Bringing.{CanReadBy};
+ghost use Rattle.archive_volumes.specs.Volumes.{CanReadBy};
 ghost use Rattle.archive_volumes.specs.Held.{book_of};
 ghost use Rattle.volume_lines.specs.OfGroups.{IsFactsOf};
 ghost use Rattle.archive_core.specs.Finished.{FirstAreFinished};
@@ -12,7 +12,8 @@ ghost use Rattle.archive_core.specs.steps.Supplying.{GoesOnBy, GoesThrough, Keep
 
 use crate::Archive;
 use crate::missing::supply;
-use archive_volumes::{ReadFault, Spot, VolumeFacts, Volumes};
+use archive_reading::ReadFault;
+use archive_volumes::{Spot, VolumeFacts, Volumes};
 use checkpoint::{CheckpointFault, volumes_have_one_list_of_lines};
 use disk_model::Disk;
 use shown::Shown;

@@ -4,7 +4,7 @@ ghost use Rattle.warc_journal.specs.Journals.{disk_of};
 ghost use Rattle.archive_shelf.specs.Answers.{Brings, CountsIf, NamesKeeper, is_bring_fault};
 ghost use Rattle.archive_shelf.specs.Digests.{GoesByDigest};
 ghost use Rattle.archive_shelf.specs.Told.{ShowsItsBook};
-ghost use Rattle.archive_volumes.specs.Digests.{GoesByKept};
+ghost use Rattle.archive_reading.specs.Digests.{GoesByKept};
 ghost use Rattle.archive_volumes.specs.Spots.{AreSpotsOf};
 ghost use Rattle.archive_volumes.specs.Volumes.{OpensNear};
 ghost use Rattle.archive_core.specs.Bringing.{BringsAsThere};
@@ -13,6 +13,7 @@ ghost use Rattle.archive_core.specs.Looking.{OnlyLooks};
 ghost use Rattle.archive_core.specs.Told.{told_of};
 
 use crate::Archive;
+use archive_payloads::bring;
 use archive_shelf::{BringFault, Receipt, Shelf, StoreFault};
 use capture::{Brought, Bytes, Taken};
 use disk_model::Disk;
@@ -33,9 +34,10 @@ impl<D: Disk> Archive<D> {
         if number >= count {
             return Err(BringFault::NoSuch { count });
         }
-        self.volumes.bring(
+        bring(
             &self.told,
             alloc,
+            &mut self.volumes,
             self.spots.as_slice(),
             &self.table,
             number,

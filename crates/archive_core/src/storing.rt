@@ -3,7 +3,7 @@ ghost use Rattle.std.specs.Prelude.{length, ◌<◌, ◌≡◌, ℕ, IfOk, None,
 ghost use Rattle.capture.specs.Captures.{captures};
 ghost use Rattle.warc_text.specs.Fits.{Fits};
 ghost use Rattle.archive_core.specs.Basis.{StoringBasis};
-ghost use Rattle.archive_volumes.specs.Choosing.{NoneDamagedBelow};
+ghost use Rattle.archive_payloads.specs.Choosing.{NoneDamagedBelow};
 ghost use Rattle.archive_core.specs.Holdings.{contents_of};
 ghost use Rattle.archive_core.specs.Looking.{IsDigestOf, IsRightOf, RefersThere, RefersTo};
 ghost use Rattle.archive_core.specs.Stores.{Stores};

@@ -36,7 +36,7 @@ use Rattle.archive_opening.specs.Gathering.{AreNamed, HasAll, IsGathered, IsName
 use Rattle.archive_volumes.specs.Held.{book_of}
 use Rattle.archive_opening.specs.Opening.{IsCause, IsDamageIn, IsIn, IsOther, IsOtherIn, IsReadRefusal}
 use Rattle.archive_opening.specs.Reading.{IsRead}
-use Rattle.archive_volumes.proofs.BringLaws.{within_of}
+use Rattle.archive_volumes.proofs.SpotLaws.{within_of}
 use Rattle.archive_volumes.specs.Spots.{ArePlaced, AreSpotsOf, AreWithin, IsPlaced, IsSpotOf}
 use Rattle.archive_volumes.specs.Volumes.{IsMeasured}
 use Rattle.archive_opening.specs.declared.gathered.Gathered.{Gathered}

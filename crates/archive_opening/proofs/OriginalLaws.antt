@@ -32,8 +32,7 @@ use Rattle.archive_opening.specs.Gathering.{AreAllRead, GroupWasRead, TellsOf}
 use Rattle.archive_opening.specs.Measuring.{Agrees, TellsLength}
 use Rattle.archive_opening.specs.Originals.{IsMet}
 use Rattle.archive_opening.specs.Revisits.{HasItsOriginal, IsOriginalOf, MayRefer}
-use Rattle.archive_volumes.specs.Choosing.{MayBeWholeAt}
-use Rattle.archive_volumes.specs.Spots.{IsPlaced, IsSpotOf, form_of, is_same_form, is_told_form, may_be_whole, whole_from}
+use Rattle.archive_volumes.specs.Spots.{IsPlaced, IsSpotOf, MayBeWholeAt, form_of, is_same_form, is_told_form, may_be_whole, whole_from}
 use Rattle.archive_volumes.specs.declared.spot.Form.{Form}
 use Rattle.archive_volumes.specs.declared.spot.Form.TheVariants as forms
 use Rattle.archive_opening.specs.declared.measuring.Told.{Told}

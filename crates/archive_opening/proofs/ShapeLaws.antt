@@ -39,9 +39,8 @@ use Rattle.archive_shelf.specs.Digests.{HasRequest}
 use Rattle.archive_shelf.specs.Storing.{add_to_last, with_capture}
 use Rattle.archive_volumes.proofs.GroupPlaces.{in_last_volume}
 use Rattle.archive_volumes.proofs.SpotLaws.{form_read, made_with, spots_with}
-use Rattle.archive_volumes.specs.Choosing.{MayBeWholeAt}
+use Rattle.archive_volumes.specs.Spots.{AreHeldWhole, AreSpotsOf, HasOwnDigest, IsInVolume, IsSpotOf, MayBeWholeAt, RefersBack, form_of, is_told_form, may_be_whole, spot_of}
 use Rattle.archive_volumes.specs.Held.{book_of}
-use Rattle.archive_volumes.specs.Spots.{AreHeldWhole, AreSpotsOf, HasOwnDigest, IsInVolume, IsSpotOf, RefersBack, form_of, is_told_form, may_be_whole, spot_of}
 use Rattle.archive_volumes.specs.declared.spot.Form.{Form}
 use Rattle.archive_volumes.specs.declared.spot.Form.TheVariants as forms
 use Rattle.archive_volumes.specs.declared.spot.Spot.{Spot}

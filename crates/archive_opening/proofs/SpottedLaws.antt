@@ -37,10 +37,9 @@ use Rattle.archive_opening.proofs.CaptureLaws.{AgreesBy, agrees, composed_is, ga
 use Rattle.archive_opening.proofs.FrontLaws.{last_with_more}
 use Rattle.archive_opening.proofs.MeasuringLaws.{one_head}
 use Rattle.archive_opening.proofs.PlaceLaws.{answer_and_request}
-use Rattle.archive_volumes.proofs.DigestLaws.{own_digest}
+use Rattle.archive_volumes.proofs.SpotLaws.{GoOn, form_read, own_digest, placed_at, placed_with, spots_with}
 use Rattle.archive_volumes.proofs.GroupPlaces.{in_last_volume}
 use Rattle.archive_volumes.proofs.Places.{StandsIn, block_in_group}
-use Rattle.archive_volumes.proofs.SpotLaws.{GoOn, form_read, placed_at, placed_with, spots_with}
 use Rattle.archive_opening.proofs.TakeLaws.{entries_push}
 use Rattle.archive_volumes.specs.Entries.{EntersAs, HasNoEntry, IsEntryAt}
 use Rattle.surt_key.specs.Targets.{TargetsHaveKeys}

@@ -20,9 +20,8 @@ ghost use Rattle.archive_opening.specs.Noting.{IsGroupAt, IsSomeGroup, IsWithin}
 ghost use Rattle.archive_opening.specs.Opening.{CountsFault, IsCause, IsDeadEnd, IsIn, IsOther};
 ghost use Rattle.archive_opening.specs.Refusing.{IsUnfit, IsUnfitGroup, IsUnfitVolume};
 ghost use Rattle.archive_opening.specs.Revisits.{MayRefer, RefersRight, RefersToNone};
-ghost use Rattle.archive_volumes.specs.Spots.{AreWithin, may_be_whole};
+ghost use Rattle.archive_volumes.specs.Spots.{AreWithin, MayBeWholeAt, may_be_whole};
 ghost use Rattle.archive_opening.specs.Telling.{HasBegunOne, HasTakenOne, IsMadeUp, RefersAt, Shapes};
-ghost use Rattle.archive_volumes.specs.Choosing.{MayBeWholeAt};
 ghost use Rattle.archive_opening.specs.declared.gathered.Refusal.TheVariants.{Damaged as IsDamaged, Memory as IsMemory};
 
 use crate::laws::reading_laws;

@@ -29,16 +29,15 @@ use Rattle.volume_scan.proofs.FoundGroups.{group_found, group_is_found, kept_fou
 use Rattle.archive_shelf.specs.Comparing.{KeepsWire}
 use Rattle.archive_opening.proofs.RevisitLaws as revisits
 use Rattle.archive_opening.specs.Revisits.{IsOriginalOf, RefersToNone}
-use Rattle.archive_volumes.proofs.BringLaws.{damaged}
-use Rattle.archive_volumes.proofs.ChooseLaws.{may_be, there_is, whole_number}
-use Rattle.archive_volumes.proofs.DecodeLaws.{one_framing}
-use Rattle.archive_volumes.specs.Choosing.{MayBeWholeAt}
-use Rattle.archive_volumes.specs.Decoding.{TellsFraming}
-use Rattle.archive_volumes.specs.KeptGroups.{IsKeptGroup, IsSomeGroup}
-use Rattle.archive_volumes.specs.Rereading.{IsToldBy}
-use Rattle.archive_volumes.specs.Spots.{AreHeldWhole, ArePlaced, AreSpotsOf, IsPlaced, IsSpotOf, form_of, is_told_form, may_be_whole, whole_from}
-use Rattle.archive_volumes.specs.declared.kept_group.KeptGroup.{KeptGroup}
-use Rattle.archive_volumes.specs.declared.kept_group.KeptGroup.TheVariants as kept_groups
+use Rattle.archive_reading.proofs.BringLaws.{damaged}
+use Rattle.archive_payloads.proofs.ChooseLaws.{may_be, there_is, whole_number}
+use Rattle.archive_reading.proofs.DecodeLaws.{one_framing}
+use Rattle.archive_volumes.specs.Spots.{AreHeldWhole, ArePlaced, AreSpotsOf, IsPlaced, IsSpotOf, MayBeWholeAt, form_of, is_told_form, may_be_whole, whole_from}
+use Rattle.archive_reading.specs.Decoding.{TellsFraming}
+use Rattle.archive_reading.specs.KeptGroups.{IsKeptGroup, IsSomeGroup}
+use Rattle.archive_reading.specs.Rereading.{IsToldBy}
+use Rattle.archive_reading.specs.declared.kept_group.KeptGroup.{KeptGroup}
+use Rattle.archive_reading.specs.declared.kept_group.KeptGroup.TheVariants as kept_groups
 use Rattle.archive_volumes.specs.declared.spot.Form.{Form}
 use Rattle.archive_volumes.specs.declared.spot.Form.TheVariants as forms
 use Rattle.archive_volumes.specs.declared.spot.Spot.{Spot}

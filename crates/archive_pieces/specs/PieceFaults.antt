@@ -2,8 +2,8 @@
 use Rattle.std.specs.Prelude.{Bool, true, false, Result, Ok, Err}
 use Rattle.archive_shelf.specs.declared.fault.StoreFault.{StoreFault}
 use Rattle.archive_shelf.specs.declared.fault.StoreFault.TheVariants as stores
-use Rattle.archive_volumes.specs.declared.part.ReadFault.{ReadFault}
-use Rattle.archive_volumes.specs.declared.part.ReadFault.TheVariants as reads
+use Rattle.archive_reading.specs.declared.part.ReadFault.{ReadFault}
+use Rattle.archive_reading.specs.declared.part.ReadFault.TheVariants as reads
 use Rattle.archive_pieces.specs.declared.fault.PieceFault.{PieceFault}
 use Rattle.archive_pieces.specs.declared.fault.PieceFault.TheVariants as pieces
 

@@ -11,9 +11,9 @@ use Rattle.warc_scan.specs.declared.group.Revisited.{Revisited}
 use Rattle.archive_shelf.specs.Answers.{IsDamaged}
 use Rattle.archive_shelf.specs.Comparing.{KeepsWire}
 use Rattle.archive_opening.specs.Revisits.{IsOriginalOf, RefersToNone}
-use Rattle.archive_volumes.specs.Decoding.{TellsFraming}
-use Rattle.archive_volumes.specs.declared.kept_group.KeptGroup.{KeptGroup}
-use Rattle.archive_volumes.specs.declared.kept_group.KeptGroup.TheVariants as kept_groups
+use Rattle.archive_reading.specs.Decoding.{TellsFraming}
+use Rattle.archive_reading.specs.declared.kept_group.KeptGroup.{KeptGroup}
+use Rattle.archive_reading.specs.declared.kept_group.KeptGroup.TheVariants as kept_groups
 use Rattle.archive_pieces.specs.declared.fault.PieceFault.{PieceFault}
 use Rattle.archive_pieces.specs.declared.fault.PieceFault.TheVariants as pieces
 

@@ -1,7 +1,7 @@
 //! Why a piece wasn't taken.
 ghost use Rattle.std.specs.Prelude.{◌≡◌};
 
-use archive_volumes::ReadFault;
+use archive_reading::ReadFault;
 use capture::{Digest, Memory};
 use thiserror::Error;
 

@@ -3,18 +3,19 @@ ghost use Rattle.std.specs.Prelude.{◌≡◌, ◌≢◌, ◌<◌, ℕ, IfOk, Is
 ghost use Rattle.revisit_table.specs.Table.{numbers_of};
 ghost use Rattle.warc_journal.specs.Journals.{disk_of};
 ghost use Rattle.archive_shelf.specs.Answers.{CountsIf};
-ghost use Rattle.archive_volumes.specs.Bringing.{CanReadBy, OnlyReads};
-ghost use Rattle.archive_volumes.specs.Choosing.{MayBeWhole};
-ghost use Rattle.archive_volumes.specs.Decoding.{TellsFraming};
+ghost use Rattle.archive_reading.specs.Bringing.{OnlyReads};
+ghost use Rattle.archive_volumes.specs.Volumes.{CanReadBy};
+ghost use Rattle.archive_volumes.specs.Spots.{AreHeldWhole, MayBeWhole, whole_from};
+ghost use Rattle.archive_reading.specs.Decoding.{TellsFraming};
 ghost use Rattle.archive_volumes.specs.Held.{book_of};
-ghost use Rattle.archive_volumes.specs.Rereading.{HaveDigest, IsToldBy};
-ghost use Rattle.archive_volumes.specs.Spots.{AreHeldWhole, whole_from};
+ghost use Rattle.archive_reading.specs.Rereading.{HaveDigest, IsToldBy};
 ghost use Rattle.archive_volumes.specs.declared.spot.Spot.{Spot as SpotValue};
 ghost use Rattle.archive_pieces.specs.PieceFaults.{is_take_fault};
 ghost use Rattle.archive_pieces.specs.PieceOriginals.{Agrees, AsksLength, AsksOriginal, ChoosesOriginal, FindsOriginal, IsLengthIn, IsNextGroup, agrees_by, whole_len_by};
 
 use crate::fault::PieceFault;
-use archive_volumes::{KeptGroup, Spot, Volumes, framing_behind};
+use archive_reading::{KeptGroup, framing_behind, read_group};
+use archive_volumes::{Spot, Volumes};
 use capture::{Digest, Framing, Memory, Stored};
 use disk_model::Disk;
 use revisit_table::Digests;
@@ -113,7 +114,7 @@ fn whole_len<D: Disk>(
     ensures faults { CountsIf (is_take_fault result) (D.faults (disk_of volumes.old.journal)) (D.faults (disk_of volumes.new.journal)) }
 {
     let kept = spots[number as usize].digest;
-    let read = volumes.read_group(told, alloc, spots, number)?;
+    let read = read_group(told, alloc, volumes, spots, number)?;
     len_in(number, kept, read)
 }
 

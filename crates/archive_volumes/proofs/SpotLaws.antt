@@ -6,7 +6,7 @@ use Rattle.std.proofs.lemmas.List.Elements.{All-cons, All-nil}
 use Rattle.std.proofs.Math.Seq.{drop-append-add, take-append_seam}
 use Rattle.std.proofs.lemmas.List.{drop-append-le, length-drop, take-append-le}
 use Rattle.sha1.specs.Sha1.{sha1}
-use Rattle.capture.specs.Captures.{captures, kept_wire, IsPayloadOf}
+use Rattle.capture.specs.Captures.{IsPayloadBy, IsPayloadOf, captures, kept_wire}
 use Rattle.capture.specs.Growth.{Grows}
 use Rattle.capture.specs.declared.book.Book.{Book}
 use Rattle.capture.specs.declared.captured.Kept.{Kept}
@@ -17,10 +17,11 @@ use Rattle.archive_shelf.specs.Comparing.{KeepsWire}
 use Rattle.archive_shelf.specs.Digests.{HasDigestOf}
 use Rattle.archive_volumes.proofs.GroupPlaces.{each_ends, ends_in_text, group_at_later, in_volume_later}
 use Rattle.warc_text.specs.Books.{IsGroupText}
-use Rattle.archive_volumes.specs.Spots.{AreHeldWhole, AreSpotsOf, ArePlaced, AreWithin, HasGroupAt, HasPlace, IsFoundById, IsPlaced, IsSpotOf, RefersBack, form_of, is_told_form, may_be_whole, part, spot_of, text_at, whole_from}
+use Rattle.archive_volumes.specs.Spots.{AreHeldWhole, ArePlaced, AreSpotsOf, AreWithin, HasGroupAt, HasOwnDigest, HasPlace, IsFoundById, IsPlaced, IsSpotOf, RefersBack, form_of, is_told_form, may_be_whole, part, spot_of, text_at, whole_from}
 use Rattle.archive_volumes.specs.declared.spot.Form.{Form}
 use Rattle.archive_volumes.specs.declared.spot.Form.TheVariants as forms
 use Rattle.archive_volumes.specs.declared.spot.Spot.{Spot}
+use Rattle.capture.specs.declared.captured.Kept.TheVariants.{Cut, Same, Wire}
 
 -- ---- places in lists
 
@@ -321,3 +322,23 @@ whole_below_from from (s ∷ ss) bound le =
 
 pub whole_below : (spots : List Spot) → All (λ (entry : List ℕ × ℕ). entry.1 < length spots) (whole_from 0 spots)
 whole_below spots = whole_below_from 0 spots (length spots) (omega arith)
+
+-- ---- places in texts
+
+pub place_of : (texts : List (List ℕ)) (book : Book) (number : ℕ) (spot : Spot) → IsPlaced texts book number spot → HasPlace texts spot
+place_of texts book number spot placed = record {
+  there = placed.there;
+  begins = omega (arith, ends_in_text book number spot.at (text_at texts spot.volume) placed.group);
+  within = placed.within;
+}
+
+-- where the book is known all are within the texts
+pub within_of : (texts : List (List ℕ)) (book : Book) (spots : List Spot) → ArePlaced texts book spots → AreWithin texts spots
+within_of texts book spots are = record { each = λ number spot at. place_of texts book number spot (are.each number spot at) }
+
+-- a digest is a capture's own where its payload has it
+pub own_digest : (book : Book) (stored : Stored) (kept : Kept) (payload digest : List ℕ) → IsPayloadBy book stored kept payload → digest ≡ sha1 payload
+    → HasOwnDigest stored kept digest
+own_digest book stored (Wire wire) payload digest has is = (payload, has, is)
+own_digest book stored (Same first) payload digest has is = tt
+own_digest book stored (Cut wire) payload digest has is = (payload, has, is)

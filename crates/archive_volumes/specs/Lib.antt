@@ -1,16 +1,9 @@
-pub mod Bringing
-pub mod Choosing
-pub mod Damage
-pub mod Decoding
-pub mod Digests
 pub mod Entries
 pub mod Facts
 pub mod Grouping
 pub mod Held
-pub mod KeptGroups
 pub mod Lines
 pub mod Ready
-pub mod Rereading
 pub mod Spots
 pub mod Volumes
 pub mod Writing

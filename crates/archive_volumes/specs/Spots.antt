@@ -1,5 +1,5 @@
 -- What is kept of the captures in memory, and where they stand in the volumes.
-use Rattle.std.specs.Prelude.{◌≡◌, ◌≢◌, ℕ, suc, ◌+◌, ◌^◌, ◌<◌, ◌≤◌, Bool, true, false, List, [], ◌∷◌, ◌++◌, length, take, drop, slice_get, slice_index_or, Option, Some, None, if◌then◌else◌, not, ⊤}
+use Rattle.std.specs.Prelude.{◌≡◌, ◌≢◌, ℕ, suc, ◌+◌, ◌^◌, ◌<◌, ◌≤◌, Bool, true, false, List, [], ◌∷◌, ◌++◌, length, take, drop, slice_get, slice_index_or, Option, Some, None, if◌then◌else◌, not, ⊤, get_or}
 use Rattle.sha1.specs.Sha1.{sha1}
 use Rattle.capture.specs.Captures.{captures, first_number, kept_wire, HasPayload, IsPayloadOf}
 use Rattle.capture.specs.declared.book.Book.{Book}
@@ -198,3 +198,13 @@ whole_from from (spot ∷ spots) =
 -- the table's captures are those
 abbrev pub IsTableOf : List Spot → Table → Type 0
 IsTableOf spots table = table.kept ≡ whole_from 0 spots
+
+-- the capture with this number keeps its whole wire, or may do so
+pub record MayBeWholeAt (spots : List Spot) (number : ℕ) : Type 0 where
+  pub spot : Spot
+  pub placed : slice_get spots number ≡ Some spot
+  pub whole : may_be_whole spot.form ≡ true
+
+-- each candidate does
+abbrev pub MayBeWhole : List Spot → List ℕ → Type 0
+MayBeWhole spots candidates = (k : ℕ) → k < length candidates → MayBeWholeAt spots (get_or candidates k 0)

@@ -16,6 +16,8 @@ use Rattle.archive_shelf.specs.Openings.{CrashStates, HasIds, ImageStandsFor, Is
 use Rattle.archive_shelf.specs.Storing.{new_volume}
 use Rattle.archive_volumes.specs.Held.{HasSpace, volume_of}
 use Rattle.archive_volumes.specs.declared.room.Prepared.{Prepared}
+use Rattle.archive_volumes.specs.Spots.{ArePlaced, AreSpotsOf, AreWithin}
+use Rattle.archive_volumes.specs.declared.spot.Spot.{Spot}
 
 -- ---- the book that is held
 
@@ -91,3 +93,14 @@ pub record IsStep (before after : Book) : Type 0 where
   pub count : length (captures after) ≤ length (captures before) + 1
   pub some : 0 < length after.volumes
   pub next : IsNext before after
+
+-- ---- what is read
+
+-- What is read goes by these spots: they are those of the book that the volumes hold. Where the disk tells, what is read of each is within the
+-- text of its volume; where the book is told, each stands where its spot says.
+pub record CanReadBy {D : Type 0} (d : Ghosts D) (told : Bool) (journal : Journal D) (book : Book) (spots : List Spot) : Type 0 where
+  pub holds : HoldsBook d told journal book
+  pub measured : IsMeasured journal book
+  pub are : AreSpotsOf book spots
+  pub within : IsTrue d.tells → AreWithin (texts d journal) spots
+  pub placed : IsTrue told → ArePlaced (texts d journal) book spots

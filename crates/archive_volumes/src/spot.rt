@@ -41,7 +41,7 @@ impl Form {
     }
 
     /// Whether only as much of the wire is kept as came: not of one that a line alone told of, since nobody knows it.
-    pub(crate) fn is_cut(self) -> bool
+    pub fn is_cut(self) -> bool
         ensures { result ≡ is_cut_form self }
     {
         match self {
@@ -53,7 +53,7 @@ impl Form {
     }
 
     /// The capture that keeps the wire, where it is known that another one does, and which.
-    pub(crate) fn keeper(self) -> Option<u32>
+    pub fn keeper(self) -> Option<u32>
         ensures { result ≡ keeper_in self }
     {
         match self {
@@ -190,7 +190,7 @@ impl Spot {
     }
 
     /// Where the head stands.
-    pub(crate) fn head_place(&self) -> Place
+    pub fn head_place(&self) -> Place
         ensures { result ≡ record { volume = self.now.volume; at = self.now.head_at; len = self.now.head_len } }
     {
         Place {
@@ -201,7 +201,7 @@ impl Spot {
     }
 
     /// Where the wire that is kept stands.
-    pub(crate) fn wire_place(&self) -> Place
+    pub fn wire_place(&self) -> Place
         requires { self.now.head_at + self.now.head_len < 2 ^ 62 }
         ensures { result ≡ record { volume = self.now.volume; at = self.now.head_at + self.now.head_len; len = self.now.wire_len } }
     {
@@ -221,7 +221,7 @@ fn is_of_revisit(line: &Line) -> bool
 }
 
 /// In which form this is kept.
-pub(crate) fn form_kept(kept: &Kept) -> Form
+pub fn form_kept(kept: &Kept) -> Form
     ensures { result ≡ form_of kept.now }
 {
     match kept {

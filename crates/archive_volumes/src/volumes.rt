@@ -160,7 +160,7 @@ impl<D: Disk> Volumes<D> {
 
     /// Fills `into` with the bytes of a volume's text from an offset on. What a call that fails leaves in `into` isn't
     /// said.
-    pub(crate) fn read(&mut self, volume: u32, at: u64, into: &mut [u8]) -> Result<(), DiskFault>
+    pub fn read(&mut self, volume: u32, at: u64, into: &mut [u8]) -> Result<(), DiskFault>
         requires in_step { IsTrue D.tells → IsInStep D.Disk self.old.journal }
         requires there { IsTrue D.tells → volume < volumes self.old.journal }
         requires in_range { IsTrue D.tells → at + length into.old

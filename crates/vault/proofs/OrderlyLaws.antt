@@ -10,7 +10,7 @@ use Rattle.archive_shelf.specs.declared.fault.StoreFault.{StoreFault}
 use Rattle.archive_shelf.specs.declared.fault.StoreFault.TheVariants as stores
 use Rattle.archive_shelf.specs.declared.looked.Looked.{Looked}
 use Rattle.archive_shelf.specs.declared.receipt.Receipt.{Receipt}
-use Rattle.archive_volumes.specs.Choosing.{is_look_fault}
+use Rattle.archive_payloads.specs.Choosing.{is_look_fault}
 use Rattle.history_lock.specs.Known.{IsSamePass, Known}
 use Rattle.history_lock.specs.Seen.{All, IsOther, Shows, Turn}
 use Rattle.vault.specs.History.{IsBegun, IsOpening, after_kind, book_after, by_of, opened_book, told_book}

@@ -15,7 +15,7 @@ use Rattle.archive_shelf.specs.declared.fault.BringFault.{BringFault}
 use Rattle.archive_shelf.specs.declared.fault.StoreFault.{StoreFault}
 use Rattle.archive_shelf.specs.declared.fault.StoreFault.TheVariants as stores
 use Rattle.archive_shelf.specs.declared.looked.Looked.{Looked}
-use Rattle.archive_volumes.specs.Choosing.{is_look_fault}
+use Rattle.archive_payloads.specs.Choosing.{is_look_fault}
 use Rattle.archive_core.specs.Holdings.{Holdings, contents_of}
 use Rattle.archive_core.specs.Looking.{Looks}
 use Rattle.archive_core.specs.Shown.{numbered}

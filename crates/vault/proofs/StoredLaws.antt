@@ -15,7 +15,7 @@ use Rattle.archive_shelf.specs.declared.fault.StoreFault.TheVariants as stores
 use Rattle.archive_shelf.specs.declared.looked.Looked.{Looked}
 use Rattle.archive_shelf.specs.declared.receipt.Receipt.{Receipt}
 use Rattle.archive_core.specs.Looking.{Looks}
-use Rattle.archive_volumes.specs.Choosing.{is_look_fault}
+use Rattle.archive_payloads.specs.Choosing.{is_look_fault}
 use Rattle.history_lock.specs.Known.{IsSamePass, Known}
 use Rattle.history_lock.specs.Seen.{Turn}
 use Rattle.vault.specs.Company.{Passing, contents_at, told_at}

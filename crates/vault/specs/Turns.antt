@@ -16,7 +16,7 @@ use Rattle.archive_shelf.specs.declared.fault.StoreFault.TheVariants as stores
 use Rattle.archive_shelf.specs.declared.looked.Looked.{Looked}
 use Rattle.archive_shelf.specs.declared.receipt.Receipt.{Receipt}
 use Rattle.archive_core.specs.Looking.{Looks}
-use Rattle.archive_volumes.specs.Choosing.{is_look_fault}
+use Rattle.archive_payloads.specs.Choosing.{is_look_fault}
 use Rattle.cdxj_index.specs.Facts.{Facts}
 use Rattle.history_lock.specs.Known.{Known}
 use Rattle.history_lock.specs.Seen.{Turn}

@@ -2,7 +2,7 @@
 ghost use Rattle.std.specs.Prelude.{◌≡◌};
 ghost use Rattle.sha1.specs.Sha1.{sha1};
 ghost use Rattle.history_lock.specs.Seen.{Adds};
-ghost use Rattle.archive_volumes.specs.Choosing.{is_look_fault};
+ghost use Rattle.archive_payloads.specs.Choosing.{is_look_fault};
 ghost use Rattle.vault.specs.Guarded.{KeepsShown};
 ghost use Rattle.vault.specs.History.{by_of, is_told};
 ghost use Rattle.vault.specs.Turns.{Compares};

@@ -38,7 +38,7 @@ use Rattle.warc_text.specs.References.{Reference, reference_of}
 use Rattle.warc_text.specs.Sound.{IsSound}
 use Rattle.warc_text.specs.declared.id.IdKind.TheVariants as ids
 use Rattle.volume_scan.proofs.FoundGroups.{kept_found}
-use Rattle.archive_volumes.proofs.SameGroup.{Goes, digest_is, goes, goes_by_answer, goes_in_book, refers, some_isnt, taken}
+use Rattle.archive_reading.proofs.SameGroup.{Goes, digest_is, goes, goes_by_answer, goes_in_book, refers, some_isnt, taken}
 use Rattle.archive_volumes.specs.Entries.{IsAskedOf, IsToldAs, told_facts}
 use Rattle.archive_volumes.specs.declared.entry.RecordAt.{RecordAt}
 use Rattle.archive_volumes.specs.Spots.{IsPlaced, IsSpotOf, form_of, is_same_form}

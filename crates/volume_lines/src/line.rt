@@ -1,6 +1,6 @@
 //! The line of a capture, by what its group tells.
 ghost use Rattle.std.specs.Prelude.{◌≡◌, ℕ, List, IfOk, IfSome};
-ghost use Rattle.archive_volumes.specs.KeptGroups.{IsTold};
+ghost use Rattle.archive_reading.specs.KeptGroups.{IsTold};
 ghost use Rattle.warc_scan.specs.Groups.{IsGroup};
 ghost use Rattle.warc_scan.specs.Outlines.{IsOutlineOf};
 ghost use Rattle.warc_scan.specs.declared.group.Group.{Group};

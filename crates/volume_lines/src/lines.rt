@@ -4,7 +4,8 @@ ghost use Rattle.capture.specs.Captures.{first_number};
 ghost use Rattle.warc_journal.specs.Journals.{disk_of};
 ghost use Rattle.warc_text.specs.Books.{IsVolumeText};
 ghost use Rattle.archive_shelf.specs.Answers.{CountsIf};
-ghost use Rattle.archive_volumes.specs.Bringing.{CanReadBy, OnlyReads, is_read_fault};
+ghost use Rattle.archive_reading.specs.Bringing.{OnlyReads, is_read_fault};
+ghost use Rattle.archive_volumes.specs.Volumes.{CanReadBy};
 ghost use Rattle.archive_volumes.specs.Held.{book_of};
 ghost use Rattle.checkpoint.specs.Checkpoints.{AreLinesFor};
 ghost use Rattle.checkpoint.specs.OfVolume.{AreLinesOf};
@@ -14,7 +15,8 @@ ghost use Rattle.volume_lines.specs.OfSpots.{AreLinesOfSpots, TellsKept};
 use crate::kept::if_kept;
 use crate::line::line_of;
 use crate::sort::sort_lines;
-use archive_volumes::{KeptGroup, ReadFault, Spot, VolumeFacts, Volumes};
+use archive_reading::{KeptGroup, ReadFault, read_group, text_len};
+use archive_volumes::{Spot, VolumeFacts, Volumes};
 use capture::Memory;
 use cdxj_line::Line;
 use disk_model::Disk;
@@ -53,7 +55,7 @@ fn line_at<D: Disk>(
     ensures faults { CountsIf (is_read_fault result) (D.faults (disk_of volumes.old.journal)) (D.faults (disk_of volumes.new.journal)) }
 {
     accepted_targets_have_keys();
-    let KeptGroup::Right { bytes, outline } = volumes.read_group(told, alloc, walk.spots, number)?
+    let KeptGroup::Right { bytes, outline } = read_group(told, alloc, volumes, walk.spots, number)?
     else {
         return Ok(None);
     };
@@ -100,7 +102,7 @@ pub fn lines_of<D: Disk>(
     let walk = Walk {
         spots,
         volume: volume.volume,
-        end: volumes.text_len(volume.volume)?,
+        end: text_len(volumes, volume.volume)?,
     };
     let mut at = info_len(volume.volume, volumes.held.born(volume.volume));
     'captures: for number in volume.first..volume.first + volume.count {

@@ -18,8 +18,8 @@ use Rattle.checkpoint.specs.declared.fault.CheckpointFault.TheVariants as checkp
 use Rattle.checkpoint.specs.OfVolume.{AreLinesOf}
 use Rattle.archive_volumes.specs.Held.{book_of}
 use Rattle.archive_volumes.specs.Volumes.{HoldsBook, crash_of}
-use Rattle.archive_volumes.specs.declared.part.ReadFault.{ReadFault}
-use Rattle.archive_volumes.specs.declared.part.ReadFault.TheVariants as reads
+use Rattle.archive_reading.specs.declared.part.ReadFault.{ReadFault}
+use Rattle.archive_reading.specs.declared.part.ReadFault.TheVariants as reads
 use Rattle.archive_volumes.specs.declared.volumes.Volumes.{Volumes}
 use Rattle.archive_volumes.specs.declared.spot.Spot.{Spot}
 use Rattle.archive_core.specs.Finished.{FirstAreFinished, HasCheckpoint}

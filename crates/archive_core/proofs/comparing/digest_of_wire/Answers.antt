@@ -1,5 +1,5 @@
 use Rattle.std.proofs.Common.{sym, ◌∙◌}
-use Rattle.archive_volumes.proofs.ChooseLaws.{no_bytes}
+use Rattle.archive_payloads.proofs.ChooseLaws.{no_bytes}
 use Rattle.archive_core.proofs.DigestLaws.{digested_all, digested_none, digested_on}
 use Rattle.archive_core.proofs.comparing.digest_of_wire.Goals as goal
 

@@ -1,6 +1,6 @@
 use Rattle.std.proofs.Common.{Option, Some, None, subst}
 use Rattle.capture.specs.declared.framing.Framing.{Framing}
-use Rattle.archive_volumes.specs.Decoding.{TellsFraming}
+use Rattle.archive_reading.specs.Decoding.{TellsFraming}
 use Rattle.archive_core.proofs.MatchLaws.{framed_by, tells_one}
 use Rattle.archive_core.proofs.comparing.framing_of_taken.Goals as goal
 

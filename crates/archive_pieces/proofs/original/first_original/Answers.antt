@@ -2,7 +2,7 @@ use Rattle.std.proofs.Common.{Bool, false, true, Ok, ap, arith, get_or, length, 
 use Rattle.std.proofs.lemmas.Option.{slice_get_within}
 use Rattle.capture.specs.Captures.{captures}
 use Rattle.capture.specs.declared.book.Book.{Book}
-use Rattle.archive_volumes.proofs.BringLaws.{readable_on, reads_then}
+use Rattle.archive_reading.proofs.BringLaws.{readable_on, reads_then}
 use Rattle.archive_volumes.specs.Held.{book_of}
 use Rattle.archive_opening.specs.Revisits.{IsOriginalOf}
 use Rattle.archive_pieces.specs.PieceOriginals.{AsksOriginal}

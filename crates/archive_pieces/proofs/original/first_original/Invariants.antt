@@ -1,7 +1,7 @@
 -- No candidate so far is the one; the disk was only read, and no fault was met.
 use Rattle.std.proofs.Common.{◌≡◌, IsTrue}
 use Rattle.warc_journal.specs.Journals.{disk_of}
-use Rattle.archive_volumes.specs.Bringing.{OnlyReads}
+use Rattle.archive_reading.specs.Bringing.{OnlyReads}
 use Rattle.archive_volumes.specs.Held.{book_of}
 use Rattle.archive_pieces.specs.PieceOriginals.{NoneIs}
 use Rattle.archive_pieces.proofs.original.first_original.Given as goal

@@ -1,7 +1,7 @@
 use Rattle.std.proofs.Common.{Ok, ap, subst, ◌∙◌}
 use Rattle.warc_journal.specs.Journals.{texts}
 use Rattle.revisit_table.specs.Table.{numbers_of}
-use Rattle.archive_volumes.proofs.ChooseLaws.{numbers_digest, numbers_whole}
+use Rattle.archive_payloads.proofs.ChooseLaws.{numbers_digest, numbers_whole}
 use Rattle.archive_volumes.specs.Held.{book_of}
 use Rattle.archive_pieces.specs.PieceOriginals.{ChoosesOriginal}
 use Rattle.archive_pieces.proofs.PieceOriginalLaws.{none_at_all}

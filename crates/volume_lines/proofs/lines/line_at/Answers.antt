@@ -2,7 +2,7 @@ use Rattle.std.proofs.Common.{◌≡◌, ◌+◌, ◌≤◌, ℕ, length, ◌∙
 use Rattle.std.specs.Prelude.{IsSomeAnd}
 use Rattle.capture.specs.declared.book.Book.{Book}
 use Rattle.warc_journal.specs.Journals.{texts}
-use Rattle.archive_volumes.proofs.PieceFronts.{spot_there}
+use Rattle.archive_reading.proofs.PieceFronts.{spot_there}
 use Rattle.archive_volumes.specs.Held.{book_of}
 use Rattle.checkpoint.specs.OfVolume.{IsLineOf}
 use Rattle.volume_lines.proofs.LineLaws.{ends_within, goes_on, has_key, kept_can, kept_only, line_tells}

@@ -1,7 +1,7 @@
 use Rattle.std.proofs.Common.{◌-◌, ◌≤◌, ℕ, List, length, ◌∙◌, subst, arith}
 use Rattle.cdxj_line.specs.declared.line.Line.{Line}
 use Rattle.warc_journal.specs.Journals.{texts}
-use Rattle.archive_volumes.proofs.BringLaws.{readable_on, reads_then}
+use Rattle.archive_reading.proofs.BringLaws.{readable_on, reads_then}
 use Rattle.archive_volumes.specs.Held.{book_of}
 use Rattle.archive_volumes.specs.Spots.{text_at}
 use Rattle.volume_lines.proofs.WalkLaws.{all_of, facts_within, goes_from, kept_next, lines_fit, lines_of_spots, lines_of_volume, numbered, text_of, told_next, walked_next}

@@ -1,7 +1,7 @@
 use Rattle.std.proofs.Common.{◌≡◌, ◌-◌, ◌≤◌, ℕ, List, IsTrue, length}
 use Rattle.warc_journal.specs.Journals.{disk_of}
 use Rattle.warc_text.specs.Books.{IsVolumeText}
-use Rattle.archive_volumes.specs.Bringing.{OnlyReads}
+use Rattle.archive_reading.specs.Bringing.{OnlyReads}
 use Rattle.archive_volumes.specs.Held.{book_of}
 use Rattle.volume_lines.proofs.WalkLaws.{HasTold, HasWalked, HaveTold}
 use Rattle.volume_lines.proofs.lines.lines_of.Given as goal

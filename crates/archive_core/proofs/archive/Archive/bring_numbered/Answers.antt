@@ -4,8 +4,9 @@ use Rattle.capture.specs.Captures.{captures}
 use Rattle.capture.specs.declared.book.Book.{Book}
 use Rattle.archive_shelf.specs.Answers.{NamesKeeper}
 use Rattle.archive_shelf.specs.Digests.{GoesByDigest}
-use Rattle.archive_volumes.specs.Bringing.{BringsFrom, CanReadBy}
-use Rattle.archive_volumes.specs.Digests.{GoesByKept}
+use Rattle.archive_reading.specs.Bringing.{BringsFrom}
+use Rattle.archive_volumes.specs.Volumes.{CanReadBy}
+use Rattle.archive_reading.specs.Digests.{GoesByKept}
 use Rattle.archive_volumes.specs.Held.{book_of}
 use Rattle.archive_volumes.specs.Spots.{whole_from}
 use Rattle.archive_volumes.specs.declared.spot.Spot.{Spot}
@@ -42,33 +43,33 @@ bring-requires-clause-table g c =
 
 pub invariant_of-self : goal.invariant_of-self
 invariant_of-self g c =
-    laws.reads_archive g.D.Disk (holdings_of c.self.inside) c.self.inside.volumes c.bring.new.self refl refl c.bring.ensures.reads c.self.invariant
+    laws.reads_archive g.D.Disk (holdings_of c.self.inside) c.self.inside.volumes c.bring.new.volumes refl refl c.bring.ensures.reads c.self.invariant
 
 pub returns-clause-brings : goal.returns-clause-brings
 returns-clause-brings g c =
     let many : c.len-count.result ≡ length c.self.inside.spots.items = omega (arith, c.len-count.ensures, c.self.inside.spots.ok.0) in
-    let same = laws.same_book g.D.Disk (holdings_of c.self.inside) c.self.inside.volumes c.bring.new.self refl refl c.bring.ensures.reads in
-    laws.brings_by g.D.Disk (record (holdings_of c.self.inside) { journal = c.bring.new.self.journal; book = book_of c.bring.new.self.held })
+    let same = laws.same_book g.D.Disk (holdings_of c.self.inside) c.self.inside.volumes c.bring.new.volumes refl refl c.bring.ensures.reads in
+    laws.brings_by g.D.Disk (record (holdings_of c.self.inside) { journal = c.bring.new.volumes.journal; book = book_of c.bring.new.volumes.held })
     c.args.number c.bring.result
-    (laws.reads_archive g.D.Disk (holdings_of c.self.inside) c.self.inside.volumes c.bring.new.self refl refl c.bring.ensures.reads c.self.invariant)
+    (laws.reads_archive g.D.Disk (holdings_of c.self.inside) c.self.inside.volumes c.bring.new.volumes refl refl c.bring.ensures.reads c.self.invariant)
     (subst (λ (b : Book). c.args.number < length (captures b)) (sym same) (omega (arith, many, c.self.invariant.spots.count, c.if-number-count.false)))
     (subst (λ (b : Book). BringsFrom c.self.inside.told.value b c.args.number c.bring.result) (sym same) c.bring.ensures.brings)
     (λ spot at. c.bring.ensures.own spot (ap (λ (l : List Spot). slice_get l c.args.number) c.as_slice.ensures.value ∙ at))
 
 pub returns-clause-names : goal.returns-clause-names
 returns-clause-names g c =
-    let same = laws.same_book g.D.Disk (holdings_of c.self.inside) c.self.inside.volumes c.bring.new.self refl refl c.bring.ensures.reads in
+    let same = laws.same_book g.D.Disk (holdings_of c.self.inside) c.self.inside.volumes c.bring.new.volumes refl refl c.bring.ensures.reads in
     subst (λ (b : Book). NamesKeeper b c.args.number c.bring.result) (sym same) c.bring.ensures.names
 
 pub returns-clause-digests : goal.returns-clause-digests
 returns-clause-digests g c =
-    let same = laws.same_book g.D.Disk (holdings_of c.self.inside) c.self.inside.volumes c.bring.new.self refl refl c.bring.ensures.reads in
+    let same = laws.same_book g.D.Disk (holdings_of c.self.inside) c.self.inside.volumes c.bring.new.volumes refl refl c.bring.ensures.reads in
     subst (λ (b : Book). GoesByDigest b c.args.number c.bring.result) (sym same) c.bring.ensures.digests
 
 pub returns-clause-looks : goal.returns-clause-looks
 returns-clause-looks g c =
-    subst (λ (held : Holdings _). OnlyLooks g.D.Disk held (record (holdings_of c.self.inside) { journal = c.bring.new.self.journal; book = book_of c.bring.new.self.held })) c.self.view_is
-    (laws.looks g.D.Disk (holdings_of c.self.inside) c.self.inside.volumes c.bring.new.self refl refl c.bring.ensures.reads c.self.invariant.holds.tells)
+    subst (λ (held : Holdings _). OnlyLooks g.D.Disk held (record (holdings_of c.self.inside) { journal = c.bring.new.volumes.journal; book = book_of c.bring.new.volumes.held })) c.self.view_is
+    (laws.looks g.D.Disk (holdings_of c.self.inside) c.self.inside.volumes c.bring.new.volumes refl refl c.bring.ensures.reads c.self.invariant.holds.tells)
 
 pub returns-clause-kept : goal.returns-clause-kept
 returns-clause-kept g c =

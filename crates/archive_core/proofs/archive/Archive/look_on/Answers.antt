@@ -5,8 +5,8 @@ use Rattle.sha1.specs.Sha1.{sha1}
 use Rattle.capture.specs.declared.book.Book.{Book}
 use Rattle.revisit_table.specs.Table.{numbers_of}
 use Rattle.archive_shelf.specs.Comparing.{IsRight}
-use Rattle.archive_volumes.specs.Choosing.{IsKeptWith, LooksOn}
-use Rattle.archive_volumes.specs.Rereading.{IsChosenThere}
+use Rattle.archive_payloads.specs.Choosing.{IsKeptWith, LooksOn}
+use Rattle.archive_reading.specs.Rereading.{IsChosenThere}
 use Rattle.archive_volumes.specs.declared.spot.Spot.{Spot}
 use Rattle.archive_volumes.specs.Held.{book_of}
 use Rattle.archive_volumes.specs.Spots.{AreHeldWhole, whole_from}
@@ -16,7 +16,7 @@ use Rattle.archive_core.specs.Looking.{IsFoundThere, OnlyLooks}
 use Rattle.archive_core.specs.View.{holdings_of}
 use Rattle.archive_core.proofs.ReadLaws as laws
 use Rattle.archive_core.proofs.ThereLaws.{found_there}
-use Rattle.archive_volumes.specs.Bringing.{CanReadBy}
+use Rattle.archive_volumes.specs.Volumes.{CanReadBy}
 use Rattle.archive_core.proofs.archive.Archive.look_on.Goals as goal
 
 pub look_on_wire-requires-clause-readable : goal.look_on_wire-requires-clause-readable
@@ -30,7 +30,7 @@ look_on_wire-requires-clause-made g c untold =
 
 pub invariant_of-self : goal.invariant_of-self
 invariant_of-self g c =
-    laws.reads_archive g.D.Disk (holdings_of c.self.inside) c.self.inside.volumes c.look_on_wire.new.self refl refl c.look_on_wire.ensures.reads c.self.invariant
+    laws.reads_archive g.D.Disk (holdings_of c.self.inside) c.self.inside.volumes c.look_on_wire.new.volumes refl refl c.look_on_wire.ensures.reads c.self.invariant
 
 pub look_on_wire-requires-clause-candidates : goal.look_on_wire-requires-clause-candidates
 look_on_wire-requires-clause-candidates g c payload is =
@@ -51,8 +51,8 @@ returns-clause-looks g c payload is =
 
 pub returns-clause-only_looks : goal.returns-clause-only_looks
 returns-clause-only_looks g c =
-    subst (λ (held : Holdings _). OnlyLooks g.D.Disk held (record (holdings_of c.self.inside) { journal = c.look_on_wire.new.self.journal; book = book_of c.look_on_wire.new.self.held })) c.self.view_is
-    (laws.looks g.D.Disk (holdings_of c.self.inside) c.self.inside.volumes c.look_on_wire.new.self refl refl c.look_on_wire.ensures.reads c.self.invariant.holds.tells)
+    subst (λ (held : Holdings _). OnlyLooks g.D.Disk held (record (holdings_of c.self.inside) { journal = c.look_on_wire.new.volumes.journal; book = book_of c.look_on_wire.new.volumes.held })) c.self.view_is
+    (laws.looks g.D.Disk (holdings_of c.self.inside) c.self.inside.volumes c.look_on_wire.new.volumes refl refl c.look_on_wire.ensures.reads c.self.invariant.holds.tells)
 
 pub returns-clause-there : goal.returns-clause-there
 returns-clause-there g c payload is none =

@@ -13,7 +13,7 @@ use Rattle.archive_core.specs.View.{holdings_of}
 use Rattle.archive_core.proofs.PieceTakenLaws.{finds_within}
 use Rattle.archive_core.proofs.ReadLaws as laws
 use Rattle.archive_core.proofs.archive.Archive.original_in.Given.{Over}
-use Rattle.archive_volumes.specs.Bringing.{CanReadBy}
+use Rattle.archive_volumes.specs.Volumes.{CanReadBy}
 use Rattle.archive_core.proofs.archive.Archive.original_in.Goals as goal
 
 -- what is asked of the disk

@@ -4,7 +4,7 @@ use Rattle.capture.specs.Captures.{captures}
 use Rattle.capture.specs.declared.book.Book.{Book}
 use Rattle.archive_shelf.specs.Digests.{PieceGoesByDigest}
 use Rattle.archive_volumes.specs.Held.{book_of}
-use Rattle.archive_volumes.specs.KeptGroups.{GivesPieceFrom, PieceGoesByKept}
+use Rattle.archive_reading.specs.KeptGroups.{GivesPieceFrom, PieceGoesByKept}
 use Rattle.archive_volumes.specs.declared.spot.Spot.{Spot}
 use Rattle.archive_core.specs.Bringing.{PieceTellsKept}
 use Rattle.archive_core.specs.Holdings.{Holdings, IsArchive}
@@ -14,7 +14,7 @@ use Rattle.archive_core.proofs.PieceLaws.{gives_by}
 use Rattle.archive_core.proofs.ReadLaws as laws
 use Rattle.archive_volumes.proofs.ChangeLaws.{DiskLaws}
 use Rattle.archive_core.proofs.archive.Archive.piece_numbered.Given.{Over}
-use Rattle.archive_volumes.specs.Bringing.{CanReadBy}
+use Rattle.archive_volumes.specs.Volumes.{CanReadBy}
 use Rattle.archive_core.proofs.archive.Archive.piece_numbered.Goals as goal
 
 -- what is asked of the disk
@@ -37,15 +37,15 @@ piece-requires-clause-readable g c =
 
 pub invariant_of-self : goal.invariant_of-self
 invariant_of-self g c =
-    laws.reads_archive g.D.Disk (holdings_of c.self.inside) c.self.inside.volumes c.piece.new.self refl refl c.piece.ensures.reads c.self.invariant
+    laws.reads_archive g.D.Disk (holdings_of c.self.inside) c.self.inside.volumes c.piece.new.volumes refl refl c.piece.ensures.reads c.self.invariant
 
 pub returns-clause-gives : goal.returns-clause-gives
 returns-clause-gives g c =
     let many : c.len-count.result ≡ length c.self.inside.spots.items = omega (arith, c.len-count.ensures, c.self.inside.spots.ok.0) in
-    let same = laws.same_book g.D.Disk (holdings_of c.self.inside) c.self.inside.volumes c.piece.new.self refl refl c.piece.ensures.reads in
-    gives_by g.D.Disk (record (holdings_of c.self.inside) { journal = c.piece.new.self.journal; book = book_of c.piece.new.self.held })
+    let same = laws.same_book g.D.Disk (holdings_of c.self.inside) c.self.inside.volumes c.piece.new.volumes refl refl c.piece.ensures.reads in
+    gives_by g.D.Disk (record (holdings_of c.self.inside) { journal = c.piece.new.volumes.journal; book = book_of c.piece.new.volumes.held })
     c.args.number c.piece.result
-    (laws.reads_archive g.D.Disk (holdings_of c.self.inside) c.self.inside.volumes c.piece.new.self refl refl c.piece.ensures.reads c.self.invariant)
+    (laws.reads_archive g.D.Disk (holdings_of c.self.inside) c.self.inside.volumes c.piece.new.volumes refl refl c.piece.ensures.reads c.self.invariant)
     (subst (λ (b : Book). c.args.number < length (captures b)) (sym same) (omega (arith, many, c.self.invariant.spots.count, c.if-number-count.false)))
     (subst (λ (b : Book). GivesPieceFrom c.self.inside.told.value b c.args.number c.piece.result) (sym same) c.piece.ensures.gives)
     (λ spot at. subst (λ (b : Book). PieceGoesByKept b c.args.number spot.digest c.piece.result) (sym same)
@@ -53,13 +53,13 @@ returns-clause-gives g c =
 
 pub returns-clause-digests : goal.returns-clause-digests
 returns-clause-digests g c =
-    let same = laws.same_book g.D.Disk (holdings_of c.self.inside) c.self.inside.volumes c.piece.new.self refl refl c.piece.ensures.reads in
+    let same = laws.same_book g.D.Disk (holdings_of c.self.inside) c.self.inside.volumes c.piece.new.volumes refl refl c.piece.ensures.reads in
     subst (λ (b : Book). PieceGoesByDigest b c.args.number c.piece.result) (sym same) c.piece.ensures.digests
 
 pub returns-clause-looks : goal.returns-clause-looks
 returns-clause-looks g c =
-    subst (λ (held : Holdings _). OnlyLooks g.D.Disk held (record (holdings_of c.self.inside) { journal = c.piece.new.self.journal; book = book_of c.piece.new.self.held })) c.self.view_is
-    (laws.looks g.D.Disk (holdings_of c.self.inside) c.self.inside.volumes c.piece.new.self refl refl c.piece.ensures.reads c.self.invariant.holds.tells)
+    subst (λ (held : Holdings _). OnlyLooks g.D.Disk held (record (holdings_of c.self.inside) { journal = c.piece.new.volumes.journal; book = book_of c.piece.new.volumes.held })) c.self.view_is
+    (laws.looks g.D.Disk (holdings_of c.self.inside) c.self.inside.volumes c.piece.new.volumes refl refl c.piece.ensures.reads c.self.invariant.holds.tells)
 
 pub returns-clause-kept : goal.returns-clause-kept
 returns-clause-kept g c =

@@ -20,7 +20,7 @@ use Rattle.archive_core.proofs.ExitLaws as exits
 use Rattle.archive_core.proofs.NamedLaws.{before_at}
 use Rattle.archive_core.proofs.PieceExitLaws as laws
 use Rattle.archive_core.proofs.archive.Archive.put_piece.Given.{Over}
-use Rattle.archive_volumes.specs.Bringing.{CanReadBy}
+use Rattle.archive_volumes.specs.Volumes.{CanReadBy}
 use Rattle.archive_core.proofs.ReadLaws.{readable}
 use Rattle.archive_core.proofs.archive.Archive.put_piece.Goals as goal
 use Rattle.archive_core.specs.steps.Taking.{parts_as}

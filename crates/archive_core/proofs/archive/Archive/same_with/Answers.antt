@@ -2,7 +2,7 @@
 use Rattle.archive_shelf.specs.declared.fault.StoreFault.{StoreFault}
 use Rattle.archive_shelf.specs.declared.looked.Looked.{Looked}
 use Rattle.archive_core.proofs.MatchLaws.{finds_all, finds_exit}
-use Rattle.archive_volumes.proofs.SinceLaws.{since_exit}
+use Rattle.archive_payloads.proofs.SinceLaws.{since_exit}
 use Rattle.archive_core.proofs.archive.Archive.same_with.Goals as goal
 
 pub returns-in_err-all-clause-finds : goal.returns-in_err-all-clause-finds

@@ -24,7 +24,7 @@ use Rattle.archive_core.proofs.PayloadLaws.{has_one}
 use Rattle.archive_core.proofs.FaultLaws.{memory_since}
 use Rattle.archive_core.proofs.NamedLaws.{before_at}
 use Rattle.archive_core.proofs.archive.Archive.store_compared.Given.{Over}
-use Rattle.archive_volumes.specs.Bringing.{CanReadBy}
+use Rattle.archive_volumes.specs.Volumes.{CanReadBy}
 use Rattle.archive_core.proofs.ReadLaws.{readable}
 use Rattle.archive_core.proofs.archive.Archive.store_compared.Goals as goal
 

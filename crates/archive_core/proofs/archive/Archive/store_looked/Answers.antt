@@ -5,7 +5,7 @@ use Rattle.capture.specs.Captures.{captures}
 use Rattle.archive_core.specs.Holdings.{Holdings}
 use Rattle.archive_core.proofs.AfterLaws.{fault_exit, stores_after}
 use Rattle.archive_volumes.proofs.ChangeLaws.{DiskLaws}
-use Rattle.archive_volumes.proofs.SinceLaws.{since_exit}
+use Rattle.archive_payloads.proofs.SinceLaws.{since_exit}
 use Rattle.archive_core.proofs.archive.Archive.store_looked.Given.{Over}
 use Rattle.archive_core.proofs.ThereLaws.{receipt_there}
 use Rattle.archive_core.proofs.archive.Archive.store_looked.Goals as goal

@@ -1,0 +1,6 @@
+pub mod AskLaws
+pub mod ChooseLaws
+pub mod DamageLaws
+pub mod OriginalLaws
+pub mod SinceLaws
+pub mod SliceLaws

@@ -1,0 +1,10 @@
+pub mod BringLaws
+pub mod DecodeLaws
+pub mod DigestLaws
+pub mod FoundLaws
+pub mod KeptGroupLaws
+pub mod PieceAnswers
+pub mod PieceFronts
+pub mod PieceLaws
+pub mod RereadLaws
+pub mod SameGroup
