@@ -12,7 +12,7 @@ use Rattle.exchange.specs.declared.aim.AimFault.{AimFault}
 use Rattle.http_head.specs.declared.head.RequestMessage.{RequestMessage}
 use Rattle.http_wire.specs.Messages.{IsRequest}
 use Rattle.session.specs.Complete.{RequestsAreNotRefused}
-use Rattle.session.proofs.ReadLaws.{long_isnt_head, one_text, same_aim}
+use Rattle.session.proofs.ReadLaws.{aims_nowhere, long_isnt_head, one_text, same_aim}
 
 -- a message that was read stands first in its bytes
 unfoldable pub stands_first : (wire : List ℕ) (message : RequestMessage) (is : IsRequest wire message)
@@ -48,6 +48,7 @@ not_refused one site wire message aim None refusal asked (inr (none, e)) =
     let same : message.head.text ≡ none.text = one_text wire message.head.text none.text asked.is.skipped none.skipped asked.is.front none.front in
     none.none asked.is.holds.0 (subst (λ (t : List ℕ). IsRequestHeadText t asked.is.holds.0) same asked.is.holds.1.reads)
 not_refused one site wire message aim (Some head) refusal asked (begins, inl nowhere) =
-    somewhere (aim_of site message.head.method message.head.target) (aim_of site head.method head.target) aim nowhere.0 asked.aimed nowhere.1 (same_aim site wire head message begins asked.is)
+    let off = aims_nowhere site head refusal nowhere in
+    somewhere (aim_of site message.head.method message.head.target) (aim_of site head.method head.target) aim off.0 asked.aimed off.1 (same_aim site wire head message begins asked.is)
 not_refused one site wire message aim (Some head) refusal asked (begins, inr wrong) =
     message_isnt_refused _ wrong.0 (one Requests true wire _ _ (stands_first wire message asked.is) (refused_first wire wrong.0 wrong.2))

@@ -1,6 +1,5 @@
 -- Requests that are answered.
-use Rattle.capture.specs.Captures.{captures}
-use Rattle.std.proofs.Common.{◌≡◌, ◌⊎◌, inl, inr, ℕ, ◌-◌, ◌^◌, ◌<◌, Bool, true, false, IsTrue, IsFalse, List, [], ◌∷◌, Contains, Option, Some, None, refl, sym, ◌∙◌, subst, arith, lit<, length}
+use Rattle.std.proofs.Common.{◌≡◌, ◌≢◌, ◌⊎◌, inl, inr, ℕ, ◌-◌, ◌^◌, ◌<◌, Bool, true, false, IsTrue, IsFalse, List, [], ◌∷◌, Contains, Option, Some, None, refl, sym, ◌∙◌, subst, arith, lit<}
 use Rattle.std.specs.Prelude.{MatchBool}
 use Rattle.capture.specs.Faults.{RoseBy}
 use Rattle.capture.specs.Final.{Arrival, Arrived, IsArrival}
@@ -18,7 +17,8 @@ use Rattle.outside.specs.declared.dialer.Transcript.{Transcript}
 use Rattle.http_wire.specs.Decisions.{ArrivalsAreOne}
 use Rattle.session.specs.Complete.{IsFaultless, GaveResponse, CanBePassedOn, GetsResponse, ResponsesArePassedOn}
 use Rattle.session.specs.Exchanges.{Exchange, Reply, Fails, Passes, IsReply}
-use Rattle.session.specs.Rounds.{Round, Outcome, Exchanged, IsRound, IsDecided, IsTextOf, origin_fault, disk_fault, numbers_by}
+use Rattle.session.specs.Rounds.{Round, Outcome, Undecided, Exchanged, Visited, IsRound, IsDecided, IsTextOf, closes_outcome, origin_fault, disk_fault}
+use Rattle.session.specs.SiteAnswers.{SiteRequest, SiteReply, Refuses}
 use Rattle.session.specs.Traces.{Terms, Traces, CountsMet}
 
 -- ---- faults
@@ -142,10 +142,10 @@ no_failure terms e cut CodingRefused traces once tells whole origin disk can h =
 -- what a lawful round of an exchange says
 pub record OfExchange (terms : Terms) (served : ℕ) (r : Round) (e : Exchange) (reply : Reply) : Type 0 where
   pub replied : IsReply terms e reply r.traces
-  pub kept : IsTrue r.lacked → numbers_by (Exchanged e reply) r.traces.before ≡ []
+  pub sufficed : ¬ (IsTrue r.lacked)
   pub origin : CountsMet (origin_fault (Exchanged e reply)) r.traces.before.dialer_faults r.traces.after.dialer_faults
   pub disk : CountsMet (disk_fault (Exchanged e reply)) r.traces.before.disk_faults r.traces.after.disk_faults
-  pub text_is : IsTrue r.lacked ⊎ IsTextOf terms served (Exchanged e reply) r.text
+  pub text_is : IsTrue r.lacked ⊎ IsTextOf terms (Exchanged e reply) (closes_outcome served (Exchanged e reply)) r.text
 
 by_lacked : (b : Bool) (P Q : Type 0) → MatchBool b P Q → IsTrue b ⊎ Q
 by_lacked true P Q h = inl refl
@@ -155,14 +155,21 @@ pub text_by : (b : Bool) (P Q : Type 0) → b ≡ false → MatchBool b P Q → 
 text_by true P Q e h = let bad : ⊥ = cc in absurd bad
 text_by false P Q e h = h
 
+-- an answer to an exchange isn't given up for want of memory
+exchange_has_memory : (r : Round) (e : Exchange) (reply : Reply) → r.outcome ≡ Exchanged e reply
+    → (r.outcome ≡ Undecided) ⊎ ((q : SiteRequest) × (other : SiteReply) × (r.outcome ≡ Visited q other) × ((refusal : Refusal) → other ≢ Refuses refusal))
+    → ⊥
+exchange_has_memory r e reply is (inl none) = cc
+exchange_has_memory r e reply is (inr (q, other, also, unrefused)) = cc
+
 of_exchange : (terms : Terms) (served : ℕ) (r : Round) (e : Exchange) (reply : Reply) → IsRound terms served r → r.outcome ≡ Exchanged e reply
     → OfExchange terms served r e reply
 of_exchange terms served r e reply lawful is = record {
   replied = (subst (λ (o : Outcome). IsDecided terms r o) is lawful.decided).1;
-  kept = subst (λ (o : Outcome). IsTrue r.lacked → numbers_by o r.traces.before ≡ []) is lawful.kept;
+  sufficed = λ lacked. exchange_has_memory r e reply is (lawful.lacking lacked);
   origin = subst (λ (o : Outcome). CountsMet (origin_fault o) r.traces.before.dialer_faults r.traces.after.dialer_faults) is lawful.dialer;
   disk = subst (λ (o : Outcome). CountsMet (disk_fault o) r.traces.before.disk_faults r.traces.after.disk_faults) is lawful.disk;
-  text_is = by_lacked r.lacked _ _ (subst (λ (o : Outcome). MatchBool r.lacked (r.text ≡ memory_text) (IsTextOf terms served o r.text)) is lawful.text_is);
+  text_is = by_lacked r.lacked _ _ (subst (λ (o : Outcome). MatchBool r.lacked (r.text ≡ memory_text) (IsTextOf terms o (closes_outcome served o) r.text)) is lawful.text_is);
 }
 
 gets : (terms : Terms) (served : ℕ) (r : Round) (e : Exchange) (reply : Reply) (cut : Bool) → ArrivalsAreOne → IsTrue terms.tells → IsFaultless r.traces
@@ -170,7 +177,7 @@ gets : (terms : Terms) (served : ℕ) (r : Round) (e : Exchange) (reply : Reply)
     → GetsResponse terms served r e cut
 gets terms served r e (Fails refusal) cut once tells whole can is h = no_failure terms e cut refusal r.traces once tells whole h.origin h.disk can h.replied
 gets terms served r e (Passes received payload) cut once tells whole can is h = elim h.text_is [
-  | inl lacking ↦ let none : length (captures r.traces.before.book) ∷ [] ≡ [] = h.kept lacking in let bad : ⊥ = cc in absurd bad
+  | inl lacked ↦ absurd (h.sufficed lacked)
   | inr text_is ↦ let passed = h.replied in
       record {
         received = received;

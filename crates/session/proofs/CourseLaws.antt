@@ -1,11 +1,12 @@
 -- A lawful round and then a connection are a connection.
-use Rattle.std.proofs.Common.{◌≡◌, ℕ, ◌+◌, inl, inr, Bool, true, false, ◌||◌, List, [], ◌∷◌, ◌++◌, refl, sym, ◌∙◌, ap, append_assoc}
+use Rattle.std.proofs.Common.{◌≡◌, ◌≢◌, ℕ, ◌+◌, inl, inr, Bool, true, false, ◌||◌, List, [], ◌∷◌, ◌++◌, Option, refl, sym, ◌∙◌, ap, append_assoc}
 use Rattle.std.proofs.lemmas.List.{append-nil}
 use Rattle.archive_shelf.specs.Contents.{Contents}
 use Rattle.capture.specs.declared.refusal.Refusal.{Refusal}
 use Rattle.capture.specs.declared.site.Site.{Site}
 use Rattle.exchange.specs.Receiving.{StaysAccounted}
 use Rattle.exchange.specs.Writing.{GrowsByProperFront}
+use Rattle.http_head.specs.declared.head.RequestHead.{RequestHead}
 use Rattle.outside.specs.Calls.{one_more}
 use Rattle.outside.specs.declared.gate.Heard.{Heard}
 use Rattle.session.specs.Connection.{IsConnection, Setting}
@@ -14,7 +15,7 @@ use Rattle.session.specs.steps.Stages.{Stage, IsRemainder, IsStep, terms_at, clo
 use Rattle.session.specs.Gains.{World, gains_of}
 use Rattle.session.specs.steps.Gaining.{gains_by}
 use Rattle.session.specs.Requests.{interim_of}
-use Rattle.session.specs.Rounds.{Round, Outcome, Undecided, Refused, Exchanged, Visited, closes_outcome, course_text, course_wire, is_closed, lacks, refusal_in, refusals}
+use Rattle.session.specs.Rounds.{Round, Outcome, Refused, closes_outcome, course_text, course_wire, is_closed, lacks}
 use Rattle.session.specs.Stopping.{Course, Ends, IsClosed, IsCutInside, IsCutShort, IsLeftOver}
 use Rattle.session.specs.Traces.{terms_of}
 use Rattle.session.specs.declared.served.Served.{Served}
@@ -43,11 +44,45 @@ right_false false c e = e
 right_false true c e = absurd (cc)
 
 -- bytes that were refused close
-no_refusal : (served : ℕ) (outcome : Outcome) → closes_outcome served outcome ≡ false → refusal_in outcome ≡ []
-no_refusal served Undecided e = refl
-no_refusal served (Refused head refusal) e = absurd (cc)
-no_refusal served (Exchanged exchange reply) e = refl
-no_refusal served (Visited request reply) e = refl
+no_refusal : (served : ℕ) (outcome : Outcome) (head : Option RequestHead) (refusal : Refusal) → closes_outcome served outcome ≡ false
+    → outcome ≢ Refused head refusal
+no_refusal served outcome head refusal goes is =
+    let bad : true ≡ false = sym (ap (λ (o : Outcome). closes_outcome served o) is) ∙ goes in absurd (cc)
+
+-- ---- the last of some rounds
+
+-- its bytes were refused, or weren't
+abbrev pub EndsRefused : Refusal → List Round → Type 0
+EndsRefused refusal rounds =
+    (init : List Round) × (last : Round) × (head : Option RequestHead) × (rounds ≡ init ++ last ∷ []) × (last.outcome ≡ Refused head refusal)
+
+abbrev pub EndsUnrefused : List Round → Type 0
+EndsUnrefused rounds =
+    (init : List Round) (last : Round) (head : Option RequestHead) (refusal : Refusal) → rounds ≡ init ++ last ∷ [] → last.outcome ≢ Refused head refusal
+
+pub no_last : (init : List Round) (last : Round) → [] ≡ init ++ last ∷ [] → ⊥
+no_last [] last e = cc
+no_last (r ∷ init) last e = cc
+
+pub none_unrefused : EndsUnrefused []
+none_unrefused init last head refusal e is = no_last init last e
+
+pub first_same : (a b : Round) (rounds others : List Round) → a ∷ rounds ≡ b ∷ others → a ≡ b
+first_same a b rounds others e = cc
+
+pub rest_same : (a b : Round) (rounds others : List Round) → a ∷ rounds ≡ b ∷ others → rounds ≡ others
+rest_same a b rounds others e = cc
+
+-- a round before others
+pub unrefused_behind : (r : Round) (rounds : List Round) → ((head : Option RequestHead) (refusal : Refusal) → r.outcome ≢ Refused head refusal)
+    → EndsUnrefused rounds → EndsUnrefused (r ∷ rounds)
+unrefused_behind r rounds own others [] last head refusal e is =
+    own head refusal (ap (λ (x : Round). x.outcome) (first_same r last rounds [] e) ∙ is)
+unrefused_behind r rounds own others (x ∷ init) last head refusal e is =
+    others init last head refusal (rest_same r x rounds (init ++ last ∷ []) e) is
+
+pub refused_behind : (r : Round) (rounds : List Round) (refusal : Refusal) → EndsRefused refusal rounds → EndsRefused refusal (r ∷ rounds)
+refused_behind r rounds refusal (init, last, head, e, is) = (r ∷ init, last, head, ap (λ (l : List Round). r ∷ l) e, is)
 
 -- what stands in part behind a longer text
 pub part_behind : (a b now text : List ℕ) → a ≡ b → GrowsByProperFront a now text → GrowsByProperFront b now text
@@ -108,18 +143,19 @@ module _ (served : ℕ) (r : Round) (rounds : List Round) (rest : List ℕ) (the
   }
 
   -- how it ends
-  ends_behind : (result : Served) (site : Site) → closes served r ≡ false → r.lacked ≡ false → refusal_in r.outcome ≡ []
+  ends_behind : (result : Served) (site : Site) → closes served r ≡ false → r.lacked ≡ false
+      → ((head : Option RequestHead) (refusal : Refusal) → r.outcome ≢ Refused head refusal)
       → Ends result site others mid now → Ends result site all_of then now
   ends_behind Done site goes has none (whole, enough, unrefused, inl all) = (
     whole,
     same_or r.lacked (lacks rounds) has ∙ enough,
-    ap (λ (x : List Refusal). x ++ refusals rounds) none ∙ unrefused,
+    unrefused_behind r rounds none unrefused,
     inl (closed_behind goes all),
   )
   ends_behind Done site goes has none (whole, enough, unrefused, inr (met, between, left)) = (
     whole,
     same_or r.lacked (lacks rounds) has ∙ enough,
-    ap (λ (x : List Refusal). x ++ refusals rounds) none ∙ unrefused,
+    unrefused_behind r rounds none unrefused,
     inr (met, between, left_behind site goes left),
   )
   ends_behind ClientBroke site goes has none (broke, enough, inl cut) =
@@ -133,7 +169,7 @@ module _ (served : ℕ) (r : Round) (rounds : List Round) (rest : List ℕ) (the
   ends_behind (ClientRefused refusal) site goes has none (whole, enough, refused, all) = (
     whole,
     same_or r.lacked (lacks rounds) has ∙ enough,
-    ap (λ (x : List Refusal). x ++ refusals rounds) none ∙ refused,
+    refused_behind r rounds refusal refused,
     closed_behind goes all,
   )
   ends_behind WantOfMemory site goes has none (lacking, inl all) = (same_or r.lacked (lacks rounds) has ∙ lacking, inl (closed_behind goes all))
@@ -172,7 +208,7 @@ then_on alone setting r from to is result step c =
       );
       ends = ends_behind from.served r c.rounds c.rest from.world.heard to.world.heard is.heard step.said result setting.site step.stays
           (left_false r.lacked (closes_outcome from.served r.outcome) step.stays)
-          (no_refusal from.served r.outcome (right_false r.lacked (closes_outcome from.served r.outcome) step.stays)) (rw step.next at c.ends);
+          (λ head refusal. no_refusal from.served r.outcome head refusal (right_false r.lacked (closes_outcome from.served r.outcome) step.stays)) (rw step.next at c.ends);
       gained = gained_both alone setting from.world to.world is (gains_by r) (gains_of c.rounds) step.made.gained c.gained;
       images = images_both (terms_at alone setting from.world.shelf) r c.rounds from.world.shelf to.world.shelf is.shelf step.made.images
           (rw same at c.images);

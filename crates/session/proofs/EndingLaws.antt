@@ -18,7 +18,7 @@ use Rattle.session.specs.Stopping.{Ends, IsLeftOver}
 use Rattle.session.specs.Traces.{Terms, View, LeadsView}
 use Rattle.session.specs.declared.served.Served.{Served}
 use Rattle.session.specs.declared.served.Served.TheVariants.{Done, ClientBroke, ClientEndedEarly, ClientRefused, WantOfMemory}
-use Rattle.session.proofs.CourseLaws.{or_true, part_behind}
+use Rattle.session.proofs.CourseLaws.{none_unrefused, or_true, part_behind}
 use Rattle.session.proofs.GainLaws.{gained_both, gained_none}
 use Rattle.session.proofs.ImageLaws.{images_none}
 
@@ -72,7 +72,7 @@ last_part alone setting r rest from is result itself h = record {
 meets_end : (end : Served) (site : Site) (served : ℕ) (rest : List ℕ) (then now : Heard) → MeetsEnd end site rest now → IsUndecided site rest
     → IsLeftOver site (record { served = served; rounds = []; rest = rest }) then now
     → Ends end site (record { served = served; rounds = []; rest = rest }) then now
-meets_end Done site served rest then now (met, between, whole) undecided left = (whole, refl, refl, inr (met, between, left))
+meets_end Done site served rest then now (met, between, whole) undecided left = (whole, refl, none_unrefused, inr (met, between, left))
 meets_end ClientBroke site served rest then now broke undecided left = (broke, refl, inr (inr (undecided, left)))
 meets_end ClientEndedEarly site served rest then now (met, inside, whole) undecided left = (whole, refl, met, inside, left)
 meets_end (ClientRefused refusal) site served rest then now h undecided left = absurd h

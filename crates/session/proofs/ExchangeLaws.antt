@@ -1,5 +1,5 @@
 -- What the steps of an exchange with an origin make of a round.
-use Rattle.std.proofs.Common.{◌≡◌, inl, inr, ℕ, ◌-◌, ◌^◌, ◌<◌, Bool, true, false, ◌||◌, IsTrue, IsErr, List, [], ◌∷◌, ◌++◌, length, Result, Ok, Err, refl, sym, ◌∙◌, ap, subst, Option, Some, None}
+use Rattle.std.proofs.Common.{◌≡◌, ◌≢◌, inl, inr, ℕ, ◌-◌, ◌^◌, ◌<◌, Bool, true, false, ◌||◌, IsTrue, IsErr, List, [], ◌∷◌, ◌++◌, length, Result, Ok, Err, refl, sym, ◌∙◌, ap, subst, Option, Some, None}
 use Rattle.std.proofs.lemmas.List.{append-nil}
 use Rattle.std.specs.Prelude.{MatchBool}
 use Rattle.archive_shelf.proofs.CallLaws.{shown_itself, stays_itself, writes_nothing_itself}
@@ -15,6 +15,7 @@ use Rattle.exchange.specs.Refusals.{refusal_text, memory_text}
 use Rattle.exchange.specs.declared.aim.Aim.TheVariants.{Origin}
 use Rattle.outside.specs.declared.dialer.Transcript.{Transcript}
 use Rattle.time_text.specs.Texts.{InRange}
+use Rattle.http_head.specs.declared.head.RequestHead.{RequestHead}
 use Rattle.session.specs.steps.Stages.{terms_at}
 use Rattle.session.specs.steps.Answering.{Incoming, MakesRound}
 use Rattle.session.specs.Connection.{Setting}
@@ -24,7 +25,7 @@ use Rattle.session.specs.steps.Exchanging.{AnswersProxied, Around, Comes, Replie
 use Rattle.session.specs.Gains.{World}
 use Rattle.session.specs.Images.{NoDeed, deed_of}
 use Rattle.session.specs.Requests.{IsAsked, IsInterim, closes_after}
-use Rattle.session.specs.Rounds.{Exchanged, disk_fault, is_refusal, numbers_by, origin_fault, IsTextOf, closes_outcome, is_from_shown, refusal_in}
+use Rattle.session.specs.Rounds.{Refused, Exchanged, disk_fault, numbers_by, origin_fault, IsTextOf, closes_outcome, is_from_shown}
 use Rattle.session.specs.Traces.{CountsMet, Terms}
 use Rattle.session.specs.steps.Givens.{Given}
 use Rattle.session.proofs.GainLaws.{none_met, sufficed}
@@ -43,11 +44,11 @@ around_of times transcripts was is = record {
 
 -- the text of a reply, and whether the connection closes with it
 pub is_text_of : (terms : Terms) (served : ℕ) (e : Exchange) (reply : Reply) (text : List ℕ)
-    → text ≡ reply_text e reply (is_cut_off reply || closes_after served e.message.head) → IsTextOf terms served (Exchanged e reply) text
+    → text ≡ reply_text e reply (is_cut_off reply || closes_after served e.message.head) → IsTextOf terms (Exchanged e reply) (closes_outcome served (Exchanged e reply)) text
 is_text_of terms served e (Fails refusal) text h = h
 is_text_of terms served e (Passes received payload) text h = h
 
-pub text_is_of : (terms : Terms) (served : ℕ) (e : Exchange) (reply : Reply) (text : List ℕ) → IsTextOf terms served (Exchanged e reply) text
+pub text_is_of : (terms : Terms) (served : ℕ) (e : Exchange) (reply : Reply) (text : List ℕ) → IsTextOf terms (Exchanged e reply) (closes_outcome served (Exchanged e reply)) text
     → text ≡ reply_text e reply (is_cut_off reply || closes_after served e.message.head)
 text_is_of terms served e (Fails refusal) text h = h
 text_is_of terms served e (Passes received payload) text h = h
@@ -61,9 +62,9 @@ unshown : (e : Exchange) (reply : Option Reply) → is_from_shown (outcome_of e 
 unshown e None = refl
 unshown e (Some reply) = refl
 
-unrefused : (e : Exchange) (reply : Option Reply) → refusal_in (outcome_of e reply) ≡ []
-unrefused e None = refl
-unrefused e (Some reply) = refl
+unrefused : (e : Exchange) (reply : Option Reply) (head : Option RequestHead) (refusal : Refusal) → outcome_of e reply ≢ Refused head refusal
+unrefused e None head refusal is = cc
+unrefused e (Some reply) head refusal is = cc
 
 -- a lawful round was made, where its text is told
 made : (alone : Bool) (setting : Setting) (e : Exchange) (incoming : Incoming) (lacked : Bool) (reply : Option Reply) (times : List ℕ)
@@ -72,7 +73,7 @@ made : (alone : Bool) (setting : Setting) (e : Exchange) (incoming : Incoming) (
     → (IsTrue setting.clock_tells → length is.answers < 2 ^ 64 - 1 → is.answers ≡ was.answers ++ times)
     → is.links ≡ record was.links { log = was.links.log ++ transcripts }
     → Replies alone setting.site e lacked reply (around_of times transcripts was is) was.shelf is.shelf
-    → MatchBool lacked (text ≡ memory_text) (IsTextOf (terms_at alone setting was.shelf) incoming.served (outcome_of e reply) text)
+    → MatchBool lacked (text ≡ memory_text) (IsTextOf (terms_at alone setting was.shelf) (outcome_of e reply) (closes_outcome incoming.served (outcome_of e reply)) text)
     → MakesRound alone setting incoming lacked text was is
 made alone setting e incoming lacked reply times transcripts text was is asked known answers logged h text_is = record {
   outcome = outcome_of e reply;
@@ -82,8 +83,7 @@ made alone setting e incoming lacked reply times transcripts text was is asked k
       decided = h.by incoming text asked;
       dialer = h.dialer;
       disk = h.disk;
-      kept = h.kept;
-      no_refusal = h.no_refusal;
+      lacking = λ lacked. inl (ap (λ (x : Option Reply). outcome_of e x) (h.lacking lacked));
       interim_is = inl known;
       text_is = text_is;
     };
@@ -150,17 +150,16 @@ none_stored a b numbers none e =
 pub unwritten : (alone : Bool) (site : Site) (e : Exchange) (lacked : Bool) (reply : Option Reply) (around : Around) (was is : Told)
     → IsEarlier is.crash → Stays alone was.contents is.contents → WritesNothing alone was is → deed_of (outcome_of e reply) ≡ NoDeed
     → numbers_by (outcome_of e reply) (view_before alone site e around is.contents.seen was) ≡ []
-    → (IsTrue lacked → is_refusal (outcome_of e reply) ≡ false)
+    → (IsTrue lacked → reply ≡ None)
     → CountsMet (origin_fault (outcome_of e reply)) around.faults_before around.faults_now
     → CountsMet (disk_fault (outcome_of e reply)) was.faults is.faults
     → IsLeft alone site e was lacked reply (traces_of alone site e around is.contents.seen was is)
     → Replies alone site e lacked reply around was is
-unwritten alone site e lacked reply around was is earlier stays quiet deed none unrefused dialer disk by = record {
+unwritten alone site e lacked reply around was is earlier stays quiet deed none undecided dialer disk by = record {
   found = is.contents.seen;
   led = stays.seen;
   by = by;
-  kept = λ lacking. none;
-  no_refusal = unrefused;
+  lacking = undecided;
   dialer = dialer;
   disk = disk;
   stored = none_stored was.contents is.contents
@@ -175,14 +174,14 @@ unwritten alone site e lacked reply around was is earlier stays quiet deed none 
 pub untouched : (alone : Bool) (site : Site) (e : Exchange) (lacked : Bool) (reply : Option Reply) (around : Around) (shelf : Told)
     → IsEarlier shelf.crash → deed_of (outcome_of e reply) ≡ NoDeed
     → numbers_by (outcome_of e reply) (view_before alone site e around shelf.contents.seen shelf) ≡ []
-    → (IsTrue lacked → is_refusal (outcome_of e reply) ≡ false)
+    → (IsTrue lacked → reply ≡ None)
     → CountsMet (origin_fault (outcome_of e reply)) around.faults_before around.faults_now
     → CountsMet (disk_fault (outcome_of e reply)) shelf.faults shelf.faults
     → IsLeft alone site e shelf lacked reply (traces_of alone site e around shelf.contents.seen shelf shelf)
     → Replies alone site e lacked reply around shelf shelf
-untouched alone site e lacked reply around shelf earlier deed none unrefused dialer disk by =
+untouched alone site e lacked reply around shelf earlier deed none undecided dialer disk by =
     unwritten alone site e lacked reply around shelf shelf earlier (stays_itself alone shelf.contents) (writes_nothing_itself alone shelf)
-    deed none unrefused dialer disk by
+    deed none undecided dialer disk by
 
 -- ---- nobody was dialed
 

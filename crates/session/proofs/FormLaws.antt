@@ -1,10 +1,11 @@
 -- Requests to the site that are answered.
 use Rattle.std.proofs.Common.{◌≡◌, ◌⊎◌, inl, inr, ℕ, ◌<◌, ◌≤◌, Bool, true, false, IsTrue, List, length, Option, Some, None, sym, ◌∙◌, ap, subst, arith}
-use Rattle.std.specs.Prelude.{IsSome, MatchBool}
+use Rattle.std.specs.Prelude.{IsSome, MatchBool, map}
 use Rattle.capture.specs.Captures.{captures}
 use Rattle.capture.specs.declared.refusal.Refusal.{Refusal}
 use Rattle.capture.specs.declared.refusal.Refusal.TheVariants.{Malformed, TargetRefused, BadTime, BadAcceptDatetime, BadQuery, NotAForm, NoCapture, NoSuch, MethodRefused, BodyTooLong, HeadTooLong, ClockRange, ConnectRefused, SecureRefused, CodingRefused, DialFault, OriginFault, OriginEnded, OriginMalformed, OriginTooLong, TooManyInterim, Full, DiskFault, Damaged}
 use Rattle.exchange.specs.Refusals.{memory_text}
+use Rattle.http_head.specs.Heads.{named_value}
 use Rattle.replay_url.specs.Address.{Parts, Numbered, Shipped, Mapped, Queried, Timed, Modified, Open, Outside, parts_at}
 use Rattle.replay_url.specs.Forms.{FormAt, NoFormAt, BadTimeAt, IsForm, IsUrl, IsNoUrl}
 use Rattle.replay_url.specs.Questions.{Question, ForNearest, ForAll, ForQuery, ForNumber, ForPiece, asked_url, question_of}
@@ -15,8 +16,9 @@ use Rattle.cdx_query.specs.declared.query.Query.{Query as CdxQuery}
 use Rattle.surt_key.specs.Key.{key_of}
 use Rattle.replay_url.proofs.OneForm.{one_form}
 use Rattle.session.specs.Complete.{IsFaultless, HasShown, HasWanted, IsAnswer, CapturesThatAreThereAreReplayed}
-use Rattle.session.specs.Rounds.{Outcome, Visited, IsDecided, IsTextOf, disk_fault}
-use Rattle.session.specs.SiteAnswers.{SiteRequest, SiteReply, Refuses, Redirects, Replays, Lists, Finds, Ships, HasNoMore, Asks, IsSoughtTime, IsDated, IsSiteReply, date_field, serves_method}
+use Rattle.session.specs.Requests.{closes_after}
+use Rattle.session.specs.Rounds.{Outcome, Visited, IsDecided, IsTextOf, closes_outcome, disk_fault}
+use Rattle.session.specs.SiteAnswers.{SiteRequest, SiteReply, Refuses, Redirects, Replays, Lists, Finds, Ships, HasNoMore, Asks, IsSoughtTime, IsSiteReply, serves_method}
 use Rattle.session.specs.Traces.{Terms, View, Traces, CountsMet}
 use Rattle.session.proofs.CompleteLaws.{rose_not, text_by, told_not_untold}
 
@@ -89,10 +91,10 @@ unserved b t f = let bad : ⊥ = cc in absurd bad
 
 -- a gate whose field names a time
 pub dated : {P : Type 0} (q : SiteRequest) (form : Form) (url : List ℕ) → Asks q form → IsForm q.address (Gate url)
-    → ((time : ℕ) → IsSoughtTime None (date_field q) time → ⊥) → P
+    → ((time : ℕ) → IsSoughtTime None (map named_value q.message.head.fields) time → ⊥) → P
 dated q form url asks gate none =
     let same : form ≡ Gate url = one_form (parts_at q.address) form (Gate url) asks.is gate in
-    let is : IsDated (question_of (Gate url)) (date_field q) = subst (λ (f : Form). IsDated (question_of f) (date_field q)) same asks.dated in
+    let is : (time : ℕ) × IsSoughtTime None (map named_value q.message.head.fields) time = asks.dated url same in
     absurd (none is.0 is.1)
 
 numbered : {P : Type 0} (q : SiteRequest) (view : View) (form : Form) (number : ℕ) → Asks q form → HasWanted view (question_of form)
@@ -175,6 +177,6 @@ replayed terms served r q reply form lawful is tells whole asks wanted = record 
   answer = answers terms q reply r.traces form tells whole
       (subst (λ (o : Outcome). CountsMet (disk_fault o) r.traces.before.disk_faults r.traces.after.disk_faults) is lawful.disk)
       asks wanted (subst (λ (o : Outcome). IsDecided terms r o) is lawful.decided).2;
-  text_is = λ sufficed. text_by r.lacked (r.text ≡ memory_text) (IsTextOf terms served (Visited q reply) r.text) sufficed
-      (subst (λ (o : Outcome). MatchBool r.lacked (r.text ≡ memory_text) (IsTextOf terms served o r.text)) is lawful.text_is);
+  text_is = λ sufficed. text_by r.lacked (r.text ≡ memory_text) (IsTextOf terms (Visited q reply) (closes_after served q.message.head) r.text) sufficed
+      (subst (λ (o : Outcome). MatchBool r.lacked (r.text ≡ memory_text) (IsTextOf terms o (closes_outcome served o) r.text)) is lawful.text_is);
 }

@@ -1,6 +1,6 @@
 -- What is found by its date, and what an address says of it.
 use Rattle.std.proofs.Common.{◌≡◌, inl, ℕ, Bool, true, false, List, Option, Some, Result, Ok, Err, refl, sym, ◌∙◌}
-use Rattle.std.specs.Prelude.{None}
+use Rattle.std.specs.Prelude.{None, MatchOption, codes, slice_get}
 use Rattle.archive_shelf.proofs.CallLaws.{same_tells, stays_tells}
 use Rattle.archive_shelf.specs.Answers.{Brings, is_bring_fault}
 use Rattle.archive_shelf.specs.Contents.{Contents, LeadsShown}
@@ -8,6 +8,7 @@ use Rattle.archive_shelf.specs.Openings.{IsEarlier}
 use Rattle.archive_shelf.specs.Told.{LooksOn, ReadsOn, Told}
 use Rattle.archive_shelf.specs.declared.fault.BringFault.{BringFault}
 use Rattle.archive_shelf.specs.declared.fault.BringFault.TheVariants as brings
+use Rattle.capture.specs.Fields.{NamedValue, values_of}
 use Rattle.capture.specs.Methods.{asks_for_head}
 use Rattle.capture.specs.declared.captured.Brought.{Brought}
 use Rattle.capture.specs.declared.memory.Memory.{Memory}
@@ -20,14 +21,20 @@ use Rattle.session.specs.steps.Givens.{Given}
 use Rattle.session.specs.steps.Looking.{FindsJust, NamesNoTime, ReachesJust}
 use Rattle.session.specs.SiteAnswers.{SiteRequest, IsSoughtTime, Replays, IsSiteReply}
 use Rattle.session.specs.Traces.{Terms}
+use Rattle.time_text.specs.Blanks.{trim_blanks}
+use Rattle.time_text.specs.Reading.{IsHttpDate}
+use Rattle.time_text.specs.declared.TheConstants.{LATEST}
 use Rattle.session.proofs.LookLaws.{found_lacking_by, found_refuses, shown_on}
 use Rattle.session.proofs.VisitLaws.{told_damaged}
 
 -- ---- a field that names no time
 
-pub none_sought : (field : Option (List ℕ)) → NamesNoTime field → (time : ℕ) → IsSoughtTime None field time → ⊥
-none_sought (Some value) none time is = none time is
-none_sought None none time is = none
+pub none_sought : (fields : List NamedValue) → NamesNoTime (slice_get (values_of (codes "accept-datetime") fields) 0)
+    → (time : ℕ) → IsSoughtTime None fields time → ⊥
+none_sought fields none time is = by_field (slice_get (values_of (codes "accept-datetime") fields) 0) none is where
+  by_field : (field : Option (List ℕ)) → NamesNoTime field → MatchOption field (time ≡ LATEST) (λ value. IsHttpDate (trim_blanks value) time) → ⊥
+  by_field (Some value) none is = none time is
+  by_field None none is = none
 
 -- ---- the capture that was found is brought
 

@@ -224,8 +224,7 @@ module _ (alone : Bool) (site : Site) (e : Exchange) (closes : Bool) (date : ℕ
         stays_consistent alone site e was is around.faults_now (ap (λ (x : Contents). x.tells) h.leaves.5) consistent,
       ),
     );
-    kept = λ lacking. refl;
-    no_refusal = sufficed;
+    lacking = sufficed;
     dialer = stayed_met around.faults_before around.faults_now come.steady;
     disk = rose_met was.faults is.faults h.faults.1;
     stored = none_stored was.contents is.contents [] refl h.leaves.5;
@@ -277,8 +276,7 @@ module _ (alone : Bool) (site : Site) (e : Exchange) (closes : Bool) (date : ℕ
         consistent = stays_consistent alone site e was is around.faults_now (ap (λ (x : Contents). x.tells) h.leaves.others) consistent;
       },
     );
-    kept = sufficed;
-    no_refusal = λ lacking. refl;
+    lacking = sufficed;
     dialer = stayed_met around.faults_before around.faults_now come.steady;
     disk = stayed_met was.faults is.faults h.faults;
     stored = mine_stored was.contents is.contents receipt.number (length (captures h.leaves.found)) h.leaves.number h.leaves.others;

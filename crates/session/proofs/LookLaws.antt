@@ -26,10 +26,10 @@ use Rattle.session.specs.steps.Answering.{AnswersVisit}
 use Rattle.session.specs.Connection.{Setting}
 use Rattle.session.specs.steps.Declining.{IsRefusing}
 use Rattle.session.specs.steps.Looking.{FindsNearest, FindsAll, FindsAnswer}
-use Rattle.session.specs.Rounds.{Visited, disk_fault, is_refusal}
-use Rattle.session.specs.SiteAnswers.{SiteRequest, SiteReply, Refuses, IsSiteReply, IsSiteText}
+use Rattle.session.specs.Rounds.{Visited, IsTextOf, disk_fault}
+use Rattle.session.specs.SiteAnswers.{SiteRequest, SiteReply, Refuses, IsSiteReply}
 use Rattle.session.specs.steps.Givens.{Given}
-use Rattle.session.proofs.VisitLaws.{Visits, bring_lacking, one_if, seen_at, visit_answers, visit_refuses, undecided}
+use Rattle.session.proofs.VisitLaws.{is_declined, Visits, bring_lacking, one_if, seen_at, visit_answers, visit_refuses, undecided}
 
 -- the entries that are shown know the book that was seen before
 knows_before : (alone : Bool) (was is : Told) → LooksOn alone was is → KnowsBook alone is.contents → IsTrue was.contents.tells
@@ -57,9 +57,9 @@ found_visits alone setting q reply fault was mid is h knows k met by = record {
 pub found_answers : (alone : Bool) (setting : Setting) (q : SiteRequest) (reply : SiteReply) (closes fault : Bool)
     (result : Result Given Memory) (was mid is : Told) → IsEarlier is.crash
     → LooksOn alone was mid → KnowsBook alone mid.contents → ReadsOn alone fault mid is → disk_fault (Visited q reply) ≡ one_if fault
-    → is_refusal (Visited q reply) ≡ false
+    → is_declined reply ≡ false
     → ((faults : ℕ) → IsSiteReply (terms_at alone setting was) q reply (seen_at mid.contents.shown faults was is))
-    → IfOk result (λ answer. IsSiteText (terms_at alone setting was) q reply closes answer.text) → IfOk result (λ answer. answer.closes ≡ closes)
+    → IfOk result (λ answer. IsTextOf (terms_at alone setting was) (Visited q reply) closes answer.text) → IfOk result (λ answer. answer.closes ≡ closes)
     → AnswersVisit alone setting q closes result was is
 found_answers alone setting q reply closes fault result was mid is earlier h knows k met unrefused by text closed incoming then now answers links faults closing asked known =
     visit_answers alone setting q reply mid.contents.shown closes result was is incoming then now answers links faults earlier
@@ -90,9 +90,9 @@ found_lacking_by alone setting q closes (Err memory) was mid is earlier h knows 
 -- by a look alone
 pub looked_answers : (alone : Bool) (setting : Setting) (q : SiteRequest) (reply : SiteReply) (closes : Bool)
     (result : Result Given Memory) (was is : Told) → IsEarlier is.crash → LooksOn alone was is
-    → KnowsBook alone is.contents → disk_fault (Visited q reply) ≡ 0 → is_refusal (Visited q reply) ≡ false
+    → KnowsBook alone is.contents → disk_fault (Visited q reply) ≡ 0 → is_declined reply ≡ false
     → ((faults : ℕ) → IsSiteReply (terms_at alone setting was) q reply (seen_at is.contents.shown faults was is))
-    → IfOk result (λ answer. IsSiteText (terms_at alone setting was) q reply closes answer.text) → IfOk result (λ answer. answer.closes ≡ closes)
+    → IfOk result (λ answer. IsTextOf (terms_at alone setting was) (Visited q reply) closes answer.text) → IfOk result (λ answer. answer.closes ≡ closes)
     → AnswersVisit alone setting q closes result was is
 looked_answers alone setting q reply closes result was is earlier h knows none unrefused by text closed =
     found_answers alone setting q reply closes false result was is is earlier h knows (reads_itself alone is) none unrefused by text closed

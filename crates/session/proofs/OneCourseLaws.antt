@@ -26,7 +26,7 @@ use Rattle.session.specs.Exchanges.{Exchange, Reply, Fails, IsReply}
 use Rattle.session.specs.Gains.{gains_of}
 use Rattle.session.specs.OneCourse.{AreOneCourse, AreSameRounds, CoursesEndOneWay, CoursesLeaveNoChoice, IsSameRound, RoundWentWell, RoundsLeaveNoChoice, WentWell}
 use Rattle.session.specs.Requests.{IsAsked, IsInside, IsInterim, IsUndecided, closes_after, interim_of}
-use Rattle.session.specs.Rounds.{Round, Outcome, Undecided, Refused, Exchanged, Visited, IsCourse, IsDecided, IsRound, IsTextOf, closes_outcome, course_text, course_wire, disk_fault, disk_faults, is_closed, lacks, origin_fault, origin_faults, refusal_in, refusals}
+use Rattle.session.specs.Rounds.{Round, Outcome, Undecided, Refused, Exchanged, Visited, IsCourse, IsDecided, IsRound, IsTextOf, closes_outcome, course_text, course_wire, disk_fault, disk_faults, is_closed, lacks, origin_fault, origin_faults}
 use Rattle.session.specs.SiteAnswers.{SiteRequest, SiteReply, IsSiteReply}
 use Rattle.session.specs.Stopping.{Course, Ends, IsClosed, IsLeftOver}
 use Rattle.session.specs.Traces.{CountsMet, IsConsistentView, IsIdle, LeadsView, Terms, View}
@@ -34,6 +34,7 @@ use Rattle.session.specs.steps.Exchanging.{is_cut_off, reply_text}
 use Rattle.session.specs.declared.served.Served.{Served}
 use Rattle.session.specs.declared.served.Served.TheVariants.{Done, ClientBroke, ClientEndedEarly, ClientRefused, WantOfMemory}
 use Rattle.session.proofs.CompleteLaws.{text_by}
+use Rattle.session.proofs.CourseLaws.{EndsRefused, EndsUnrefused, first_same, no_last, refused_behind, rest_same}
 use Rattle.session.proofs.ExchangeLaws.{text_is_of}
 use Rattle.session.proofs.GrowingLaws.{courses_count, decided_leaves, leads_consistent, leaves_consistent}
 use Rattle.session.proofs.OneRequest.{Cutting, SameAsked, SameRefused, asked_is_decided, asked_isnt_refused, interim_asked, interim_refused, one_asked, one_head, one_refused, refused_is_decided, told_interim}
@@ -63,13 +64,13 @@ led_same terms a b alone leads =
 lacked_isnt : {P : Type 0} (b : Bool) → IsTrue b → b ≡ false → P
 lacked_isnt b t f = let bad : ⊥ = cc in absurd bad
 
-text_of : (terms : Terms) (served : ℕ) (r : Round) → RoundWentWell terms served r → IsTextOf terms served r.outcome r.text
-text_of terms served r h = text_by r.lacked (r.text ≡ memory_text) (IsTextOf terms served r.outcome r.text) h.memory h.lawful.text_is
+text_of : (terms : Terms) (served : ℕ) (r : Round) → RoundWentWell terms served r → IsTextOf terms r.outcome (closes_outcome served r.outcome) r.text
+text_of terms served r h = text_by r.lacked (r.text ≡ memory_text) (IsTextOf terms r.outcome (closes_outcome served r.outcome) r.text) h.memory h.lawful.text_is
 
-one_refusal_text : (terms : Terms) (served : ℕ) (head : Option RequestHead) (refusal : Refusal) (a b : List ℕ)
-    → IsTextOf terms served (Refused head refusal) a → IsTextOf terms served (Refused head refusal) b → a ≡ b
-one_refusal_text terms served None refusal a b h k = h ∙ sym k
-one_refusal_text terms served (Some head) refusal a b h k = h ∙ sym k
+one_refusal_text : (terms : Terms) (head : Option RequestHead) (refusal : Refusal) (a b : List ℕ)
+    → IsTextOf terms (Refused head refusal) true a → IsTextOf terms (Refused head refusal) true b → a ≡ b
+one_refusal_text terms None refusal a b h k = h ∙ sym k
+one_refusal_text terms (Some head) refusal a b h k = h ∙ sym k
 
 interim_of_round : (terms : Terms) (served : ℕ) (r : Round) → RoundWentWell terms served r → IsInterim terms.site r.wire r.interim
 interim_of_round terms served r h = elim h.lawful.interim_is [
@@ -159,8 +160,8 @@ module _ (laws : Choosing) (terms : Terms) (served : ℕ) (tells : IsTrue terms.
 
   -- both were refused for themselves
   both_refused : (head other : Option RequestHead) (a b : Refusal) → r.outcome ≡ Refused head a → s.outcome ≡ Refused other b
-      → IsDecided terms r (Refused head a) → IsDecided terms s (Refused other b) → IsTextOf terms served (Refused head a) r.text
-      → IsTextOf terms served (Refused other b) s.text → Step
+      → IsDecided terms r (Refused head a) → IsDecided terms s (Refused other b) → IsTextOf terms (Refused head a) (closes_outcome served (Refused head a)) r.text
+      → IsTextOf terms (Refused other b) (closes_outcome served (Refused other b)) s.text → Step
   both_refused head other a b is also h k text too =
       let same : SameRefused head other a b = one_refused laws.cutting terms.site r.wire s.wire bytes left head other a b given h.0 k.0 in
       let outcomes : Refused head a ≡ Refused other b =
@@ -171,7 +172,7 @@ module _ (laws : Choosing) (terms : Terms) (served : ℕ) (tells : IsTrue terms.
         same = record {
           outcome = is ∙ outcomes ∙ sym also;
           interim = own ∙ ap (told_interim terms.site) same.head_is ∙ sym its;
-          text = one_refusal_text terms served other b r.text s.text (subst (λ (o : Outcome). IsTextOf terms served o r.text) outcomes text) too;
+          text = one_refusal_text terms other b r.text s.text (subst (λ (o : Outcome). IsTextOf terms o (closes_outcome served o) r.text) outcomes text) too;
           book = idle_book h.1 k.1;
         };
         shown = λ alone. idle_shown alone h.1 k.1;
@@ -187,8 +188,8 @@ module _ (laws : Choosing) (terms : Terms) (served : ℕ) (tells : IsTrue terms.
 
   -- both went to the same origin
   both_exchanged : (e d : Exchange) (a b : Reply) → r.outcome ≡ Exchanged e a → s.outcome ≡ Exchanged d b
-      → IsDecided terms r (Exchanged e a) → IsDecided terms s (Exchanged d b) → IsTextOf terms served (Exchanged e a) r.text
-      → IsTextOf terms served (Exchanged d b) s.text → Step
+      → IsDecided terms r (Exchanged e a) → IsDecided terms s (Exchanged d b) → IsTextOf terms (Exchanged e a) (closes_outcome served (Exchanged e a)) r.text
+      → IsTextOf terms (Exchanged d b) (closes_outcome served (Exchanged d b)) s.text → Step
   both_exchanged e d a b is also h k text too =
       let asked : SameAsked e.message d.message bytes left = one_asked laws.cutting r.wire s.wire bytes left e.message d.message given h.0.is k.0.is in
       let target : e.target ≡ d.target =
@@ -215,8 +216,8 @@ module _ (laws : Choosing) (terms : Terms) (served : ℕ) (tells : IsTrue terms.
 
   -- both asked the site for the same
   both_visited : (q p : SiteRequest) (a b : SiteReply) → r.outcome ≡ Visited q a → s.outcome ≡ Visited p b
-      → IsDecided terms r (Visited q a) → IsDecided terms s (Visited p b) → IsTextOf terms served (Visited q a) r.text
-      → IsTextOf terms served (Visited p b) s.text → Step
+      → IsDecided terms r (Visited q a) → IsDecided terms s (Visited p b) → IsTextOf terms (Visited q a) (closes_outcome served (Visited q a)) r.text
+      → IsTextOf terms (Visited p b) (closes_outcome served (Visited p b)) s.text → Step
   both_visited q p a b is also h k text too =
       let asked : SameAsked q.message p.message bytes left = one_asked laws.cutting r.wire s.wire bytes left q.message p.message given h.0.is k.0.is in
       let address : q.address ≡ p.address =
@@ -233,7 +234,7 @@ module _ (laws : Choosing) (terms : Terms) (served : ℕ) (tells : IsTrue terms.
           outcome = is ∙ outcomes ∙ sym also;
           interim = interim_as q.message p.message asked.message h.0.is k.0.is;
           text = text_once laws.finding.splits terms p b (closes_after served p.message.head) r.text s.text
-              (subst (λ (o : Outcome). IsTextOf terms served o r.text) outcomes text) too;
+              (subst (λ (o : Outcome). IsTextOf terms o (closes_outcome served o) r.text) outcomes text) too;
           book = idle_book h.1 k.1;
         };
         shown = λ alone. idle_shown alone h.1 k.1;
@@ -258,8 +259,8 @@ module _ (laws : Choosing) (terms : Terms) (served : ℕ) (tells : IsTrue terms.
       let asked : SameAsked m n bytes left = one_asked laws.cutting r.wire s.wire bytes left m n given h.is k.is in
       origin_isnt_site (aim_of terms.site n.head.method n.head.target) target address k.aimed (aimed_as terms r.wire m n (ToSite address) asked.message h)
 
-  two_rounds : (o p : Outcome) → r.outcome ≡ o → s.outcome ≡ p → IsDecided terms r o → IsDecided terms s p → IsTextOf terms served o r.text
-      → IsTextOf terms served p s.text → Step
+  two_rounds : (o p : Outcome) → r.outcome ≡ o → s.outcome ≡ p → IsDecided terms r o → IsDecided terms s p → IsTextOf terms o (closes_outcome served o) r.text
+      → IsTextOf terms p (closes_outcome served p) s.text → Step
   two_rounds Undecided p is also h k text too = lacked_isnt r.lacked h.0 rp.memory
   two_rounds (Refused head a) Undecided is also h k text too = lacked_isnt s.lacked k.0 sp.memory
   two_rounds (Refused head a) (Refused other b) is also h k text too = both_refused head other a b is also h k text too
@@ -487,18 +488,52 @@ no_choice laws terms was a b is other alone tells con well also same =
 
 -- ---- ends
 
-same_refusals : (rounds others : List Round) → AreSameRounds rounds others → refusals rounds ≡ refusals others
-same_refusals [] [] are = refl
-same_refusals (r ∷ rounds) (s ∷ others) (same, are) =
-    ap (λ (o : Outcome). refusal_in o ++ refusals rounds) same.outcome ∙ ap (λ (l : List Refusal). refusal_in s.outcome ++ l) (same_refusals rounds others are)
-same_refusals [] (s ∷ others) are = absurd are
-same_refusals (r ∷ rounds) [] are = absurd are
+same_turned : (rounds others : List Round) → AreSameRounds rounds others → AreSameRounds others rounds
+same_turned [] [] are = tt
+same_turned (r ∷ rounds) (s ∷ others) (same, are) =
+    (record { outcome = sym same.outcome; interim = sym same.interim; text = sym same.text; book = sym same.book }, same_turned rounds others are)
+same_turned [] (s ∷ others) are = absurd are
+same_turned (r ∷ rounds) [] are = absurd are
 
-none_isnt_refusal : {P : Type 0} (refusal : Refusal) → [] ≡ refusal ∷ [] → P
-none_isnt_refusal refusal e = let bad : ⊥ = cc in absurd bad
+none_alike : (rounds others : List Round) → AreSameRounds rounds others → others ≡ [] → rounds ≡ []
+none_alike [] others are e = refl
+none_alike (r ∷ rounds) [] are e = absurd are
+none_alike (r ∷ rounds) (s ∷ others) are e = let bad : ⊥ = cc in absurd bad
 
-one_refusal : (a b : Refusal) → a ∷ [] ≡ b ∷ [] → a ≡ b
-one_refusal a b e = cc
+-- the last of each are the same
+last_alike : (rounds others : List Round) → AreSameRounds rounds others → (init : List Round) (last : Round) (head : Option RequestHead) (refusal : Refusal)
+    → others ≡ init ++ last ∷ [] → last.outcome ≡ Refused head refusal → EndsRefused refusal rounds
+last_alike [] [] are init last head refusal e is = absurd (no_last init last e)
+last_alike (r ∷ rounds) (s ∷ others) (same, are) [] last head refusal e is = (
+  [],
+  r,
+  head,
+  ap (λ (l : List Round). r ∷ l) (none_alike rounds others are (rest_same s last others [] e)),
+  same.outcome ∙ ap (λ (x : Round). x.outcome) (first_same s last others [] e) ∙ is,
+)
+last_alike (r ∷ rounds) (s ∷ others) (same, are) (x ∷ init) last head refusal e is =
+    refused_behind r rounds refusal (last_alike rounds others are init last head refusal (rest_same s x others (init ++ last ∷ []) e) is)
+last_alike [] (s ∷ others) are init last head refusal e is = absurd are
+last_alike (r ∷ rounds) [] are init last head refusal e is = absurd are
+
+refused_alike : (rounds others : List Round) (refusal : Refusal) → AreSameRounds rounds others → EndsRefused refusal others → EndsRefused refusal rounds
+refused_alike rounds others refusal are (init, last, head, e, is) = last_alike rounds others are init last head refusal e is
+
+refused_isnt : {P : Type 0} (rounds : List Round) (refusal : Refusal) → EndsRefused refusal rounds → EndsUnrefused rounds → P
+refused_isnt rounds refusal (init, last, head, e, is) none = absurd (none init last head refusal e is)
+
+one_last : (init more : List Round) (last other : Round) → init ++ last ∷ [] ≡ more ++ other ∷ [] → last ≡ other
+one_last [] [] last other e = first_same last other [] [] e
+one_last [] (y ∷ more) last other e = absurd (no_last more other (rest_same last y [] (more ++ other ∷ []) e))
+one_last (x ∷ init) [] last other e = absurd (no_last init last (sym (rest_same x other (init ++ last ∷ []) [] e)))
+one_last (x ∷ init) (y ∷ more) last other e = one_last init more last other (rest_same x y (init ++ last ∷ []) (more ++ other ∷ []) e)
+
+refusal_told : (head other : Option RequestHead) (a b : Refusal) → Refused head a ≡ Refused other b → a ≡ b
+refusal_told head other a b e = cc
+
+one_refusal : (rounds : List Round) (a b : Refusal) → EndsRefused a rounds → EndsRefused b rounds → a ≡ b
+one_refusal rounds a b (init, last, head, e, is) (more, other, also, d, too) =
+    refusal_told head also a b (sym is ∙ ap (λ (x : Round). x.outcome) (one_last init more last other (sym e ∙ d)) ∙ too)
 
 nothing_isnt_more : {P : Type 0} (stream : List ℕ) → front_of stream ≡ head_front.Nothing → front_of stream ≡ head_front.More → P
 nothing_isnt_more stream e d = let bad : ⊥ = cc in absurd bad
@@ -554,9 +589,6 @@ module _ (site : Site) (a b : Course) (is other : View) (then now also : Heard) 
   early_isnt_done inside h (inr (met, between, k)) =
       between_isnt_inside site b.rest between (subst (λ (t : List ℕ). IsInside site t) (same.rest h.not_closed) inside)
 
-  refused_same : refusals a.rounds ≡ refusals b.rounds
-  refused_same = same_refusals a.rounds b.rounds same.rounds
-
   end_alike : (result end : Served) → lacks a.rounds ≡ false → lacks b.rounds ≡ false → now.faults ≡ 0 → also.faults ≡ 0
       → Ends result site a then now → Ends end site b then also → (result ≡ end) × (now.written ≡ also.written)
   end_alike ClientBroke end whole_a whole_b ok fine h k = absurd (h.0 ok)
@@ -565,7 +597,8 @@ module _ (site : Site) (a b : Course) (is other : View) (then now also : Heard) 
   end_alike Done WantOfMemory whole_a whole_b ok fine h k = true_isnt_false (lacks b.rounds) k.0 whole_b
   end_alike Done Done whole_a whole_b ok fine h k = (refl, done_alike h.3 k.3)
   end_alike Done ClientEndedEarly whole_a whole_b ok fine h k = done_isnt_early h.3 k.3 k.4
-  end_alike Done (ClientRefused refusal) whole_a whole_b ok fine h k = none_isnt_refusal refusal (sym h.2 ∙ refused_same ∙ k.2)
+  end_alike Done (ClientRefused refusal) whole_a whole_b ok fine h k =
+      refused_isnt a.rounds refusal (refused_alike a.rounds b.rounds refusal same.rounds k.2) h.2
   end_alike ClientEndedEarly ClientBroke whole_a whole_b ok fine h k = absurd (k.0 fine)
   end_alike ClientEndedEarly WantOfMemory whole_a whole_b ok fine h k = true_isnt_false (lacks b.rounds) k.0 whole_b
   end_alike ClientEndedEarly Done whole_a whole_b ok fine h k = early_isnt_done h.3 h.4 k.3
@@ -573,10 +606,13 @@ module _ (site : Site) (a b : Course) (is other : View) (then now also : Heard) 
   end_alike ClientEndedEarly (ClientRefused refusal) whole_a whole_b ok fine h k = apart_too h.4.not_closed k.3.closed
   end_alike (ClientRefused refusal) ClientBroke whole_a whole_b ok fine h k = absurd (k.0 fine)
   end_alike (ClientRefused refusal) WantOfMemory whole_a whole_b ok fine h k = true_isnt_false (lacks b.rounds) k.0 whole_b
-  end_alike (ClientRefused refusal) Done whole_a whole_b ok fine h k = none_isnt_refusal refusal (sym k.2 ∙ sym refused_same ∙ h.2)
+  end_alike (ClientRefused refusal) Done whole_a whole_b ok fine h k =
+      refused_isnt b.rounds refusal (refused_alike b.rounds a.rounds refusal (same_turned a.rounds b.rounds same.rounds) h.2) k.2
   end_alike (ClientRefused refusal) ClientEndedEarly whole_a whole_b ok fine h k = apart h.3.closed k.4.not_closed
-  end_alike (ClientRefused refusal) (ClientRefused why) whole_a whole_b ok fine h k =
-      (ap (λ (x : Refusal). ClientRefused x) (one_refusal refusal why (sym h.2 ∙ refused_same ∙ k.2)), closed_written h.3 k.3)
+  end_alike (ClientRefused refusal) (ClientRefused why) whole_a whole_b ok fine h k = (
+    ap (λ (x : Refusal). ClientRefused x) (one_refusal a.rounds refusal why h.2 (refused_alike a.rounds b.rounds why same.rounds k.2)),
+    closed_written h.3 k.3,
+  )
 
 pub end_one_way : CoursesEndOneWay
 end_one_way site a b is other result end then now also same whole_a whole_b h k ok fine =

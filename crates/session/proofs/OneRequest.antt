@@ -20,6 +20,7 @@ use Rattle.capture.specs.declared.framing.FramingFault.{FramingFault}
 use Rattle.capture.specs.declared.framing.FramingFault.TheVariants as framing_fault
 use Rattle.capture.specs.declared.framing.MessageFault.{MessageFault}
 use Rattle.capture.specs.declared.refusal.Refusal.{Refusal}
+use Rattle.capture.specs.declared.refusal.Refusal.TheVariants.{ConnectRefused, SecureRefused, TargetRefused}
 use Rattle.capture.specs.declared.site.Site.{Site}
 use Rattle.exchange.specs.Aim.{aim_of}
 use Rattle.exchange.specs.declared.aim.Aim.{Aim}
@@ -37,9 +38,9 @@ use Rattle.http_wire.proofs.OneHead.{no_head_is_none, no_head_in_more, one_skipp
 use Rattle.http_wire.specs.Decisions.{FirstsAreOne, MessagesStay, RefusalsStay}
 use Rattle.http_wire.specs.Heads.{BeginsWithRequest}
 use Rattle.http_wire.specs.Messages.{IsRequest}
-use Rattle.session.specs.Requests.{IsAimRefusal, IsAsked, IsInterim, IsRefused, IsUndecided, interim_of, refusal_of}
+use Rattle.session.specs.Requests.{IsAsked, IsInterim, IsRefused, IsUndecided, interim_of, refusal_of}
 use Rattle.session.proofs.AskedLaws.{refused_first, somewhere, stands_first}
-use Rattle.session.proofs.ReadLaws.{long_isnt_head, one_text}
+use Rattle.session.proofs.ReadLaws.{aims_nowhere, long_isnt_head, one_text}
 use Rattle.session.specs.steps.Reads.{IsAimed, IsAimedNowhere}
 
 -- what lower crates promise of a client's stream
@@ -218,14 +219,23 @@ refused_stays laws site wire more (Some head) refusal (begins, inr wrong) =
       ),
     )
 
-aim_fault_once : (a : Result Aim AimFault) (f g : AimFault) → a ≡ Err f → a ≡ Err g → f ≡ g
-aim_fault_once a f g e d = cc
+-- where a head goes, a refusal follows from that
+abbrev GoesNowhere : Result Aim AimFault → Refusal → Type 0
+GoesNowhere aim refusal =
+    ((aim ≡ Err aim_fault.ConnectRefused) × (refusal ≡ ConnectRefused))
+    ⊎ ((aim ≡ Err aim_fault.SecureRefused) × (refusal ≡ SecureRefused))
+    ⊎ ((aim ≡ Err aim_fault.TargetRefused) × (refusal ≡ TargetRefused))
 
-aim_refusal_once : (fault : AimFault) (a b : Refusal) → IsAimRefusal fault a → IsAimRefusal fault b → a ≡ b
-aim_refusal_once aim_fault.ConnectRefused a b e d = e ∙ sym d
-aim_refusal_once aim_fault.SecureRefused a b e d = e ∙ sym d
-aim_refusal_once aim_fault.TargetRefused a b e d = e ∙ sym d
-aim_refusal_once aim_fault.Memory a b e d = absurd e
+aim_refusal_once : (aim : Result Aim AimFault) (a b : Refusal) → GoesNowhere aim a → GoesNowhere aim b → a ≡ b
+aim_refusal_once aim a b (inl (is, e)) (inl (also, d)) = e ∙ sym d
+aim_refusal_once aim a b (inr (inl (is, e))) (inr (inl (also, d))) = e ∙ sym d
+aim_refusal_once aim a b (inr (inr (is, e))) (inr (inr (also, d))) = e ∙ sym d
+aim_refusal_once aim a b (inl (is, e)) (inr (inl (also, d))) = let bad : ⊥ = cc in absurd bad
+aim_refusal_once aim a b (inl (is, e)) (inr (inr (also, d))) = let bad : ⊥ = cc in absurd bad
+aim_refusal_once aim a b (inr (inl (is, e))) (inl (also, d)) = let bad : ⊥ = cc in absurd bad
+aim_refusal_once aim a b (inr (inl (is, e))) (inr (inr (also, d))) = let bad : ⊥ = cc in absurd bad
+aim_refusal_once aim a b (inr (inr (is, e))) (inl (also, d)) = let bad : ⊥ = cc in absurd bad
+aim_refusal_once aim a b (inr (inr (is, e))) (inr (inl (also, d))) = let bad : ⊥ = cc in absurd bad
 
 fault_once : (f g : MessageFault) → RefusedFirst f ≡ RefusedFirst g → f ≡ g
 fault_once f g e = cc
@@ -234,11 +244,6 @@ none_told : {P : Type 0} (stream : List ℕ) (head : RequestHead) → BeginsWith
 none_told stream head begins none =
     let same : head.text ≡ none.text = one_text stream head.text none.text begins.skipped none.skipped begins.front none.front in
     absurd (none.none begins.holds.0 (subst (λ (t : List ℕ). IsRequestHeadText t begins.holds.0) same begins.holds.1.reads))
-
-nowhere_once : (site : Site) (head : RequestHead) (a b : Refusal) → IsAimedNowhere site head a → IsAimedNowhere site head b → a ≡ b
-nowhere_once site head a b h k =
-    let same : h.0 ≡ k.0 = aim_fault_once (aim_of site head.method head.target) h.0 k.0 h.1 k.1 in
-    aim_refusal_once k.0 a b (subst (λ (f : AimFault). IsAimRefusal f a) same h.2) k.2
 
 -- it asks to go somewhere, and it or the body behind it is no message
 abbrev IsNoMessage : Site → List ℕ → RequestHead → Refusal → Type 0
@@ -254,11 +259,13 @@ wrong_once one site stream head a b h k =
 
 behind_head_once : FirstsAreOne → (site : Site) (stream : List ℕ) (head : RequestHead) (a b : Refusal)
     → IsAimedNowhere site head a ⊎ IsNoMessage site stream head a → IsAimedNowhere site head b ⊎ IsNoMessage site stream head b → a ≡ b
-behind_head_once one site stream head a b (inl h) (inl k) = nowhere_once site head a b h k
+behind_head_once one site stream head a b (inl h) (inl k) = aim_refusal_once (aim_of site head.method head.target) a b h k
 behind_head_once one site stream head a b (inl h) (inr k) =
-    somewhere (aim_of site head.method head.target) (aim_of site head.method head.target) k.1.0 h.0 k.1.1 h.1 refl
+    let off = aims_nowhere site head a h in
+    somewhere (aim_of site head.method head.target) (aim_of site head.method head.target) k.1.0 off.0 k.1.1 off.1 refl
 behind_head_once one site stream head a b (inr h) (inl k) =
-    somewhere (aim_of site head.method head.target) (aim_of site head.method head.target) h.1.0 k.0 h.1.1 k.1 refl
+    let off = aims_nowhere site head b k in
+    somewhere (aim_of site head.method head.target) (aim_of site head.method head.target) h.1.0 off.0 h.1.1 off.1 refl
 behind_head_once one site stream head a b (inr h) (inr k) = wrong_once one site stream head a b h k
 
 -- with which head, and why
@@ -303,7 +310,8 @@ asked_or_refused laws site w x m aim None b asked (inr (none, e)) =
     none_told (w ++ x) m.head (begins_stays laws.heads w x m.head (begins_of w m asked.is)) none
 asked_or_refused laws site w x m aim (Some head) b asked (begins, inl nowhere) =
     let same : m.head ≡ head = one_head (w ++ x) m.head head (begins_stays laws.heads w x m.head (begins_of w m asked.is)) begins in
-    somewhere (aim_of site m.head.method m.head.target) (aim_of site head.method head.target) aim nowhere.0 asked.aimed nowhere.1 (ap (λ (h : RequestHead). aim_of site h.method h.target) same)
+    let off = aims_nowhere site head b nowhere in
+    somewhere (aim_of site m.head.method m.head.target) (aim_of site head.method head.target) aim off.0 asked.aimed off.1 (ap (λ (h : RequestHead). aim_of site h.method h.target) same)
 asked_or_refused laws site w x m aim (Some head) b asked (begins, inr wrong) =
     message_isnt (length w) wrong.0 (laws.firsts Requests true (w ++ x) (Message (length w)) (RefusedFirst wrong.0)
     (asked_first laws w x m true asked.is) (refused_first (w ++ x) wrong.0 wrong.2))
@@ -361,7 +369,8 @@ decided_on one site stream (Some head) b (begins, why) (inl between) =
     absurd (no_head_is_none begins.skipped head.text (sym between.0 ∙ begins.front))
 decided_on one site stream (Some head) b (begins, why) (inr (inl needs)) = needs_no_head stream head.text begins.skipped needs begins.front
 decided_on one site stream (Some head) b (begins, inl nowhere) (inr (inr awaits)) =
-    somewhere (aim_of site awaits.0.method awaits.0.target) (aim_of site head.method head.target) awaits.2.0 nowhere.0 awaits.2.1 nowhere.1
+    let off = aims_nowhere site head b nowhere in
+    somewhere (aim_of site awaits.0.method awaits.0.target) (aim_of site head.method head.target) awaits.2.0 off.0 awaits.2.1 off.1
     (ap (λ (h : RequestHead). aim_of site h.method h.target) (one_head stream awaits.0 head awaits.1 begins))
 decided_on one site stream (Some head) b (begins, inr wrong) (inr (inr awaits)) =
     fault_isnt wrong.0 (one Requests false stream (RefusedFirst wrong.0) BodyNeeded (refused_first stream wrong.0 wrong.2) awaits.3)

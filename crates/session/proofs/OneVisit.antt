@@ -1,6 +1,6 @@
 -- A request to the site is answered in one way, by what is seen and shown of the archive.
 use Rattle.std.proofs.Common.{◌≡◌, inl, inr, ℕ, zero, suc, ◌+◌, ◌*◌, ◌<◌, ◌≤◌, Bool, true, false, IsTrue, List, [], ◌∷◌, ◌++◌, length, length-append, take, Option, Some, None, refl, sym, ◌∙◌, ap, subst, arith}
-use Rattle.std.specs.Prelude.{Contains, bytes_eq, slice_get, unwrap_or, MatchBool}
+use Rattle.std.specs.Prelude.{Contains, bytes_eq, codes, map, slice_get, unwrap_or, MatchBool, MatchOption}
 use Rattle.std.proofs.lemmas.Slice.Eq.{bytes_eq-Decides}
 use Rattle.std.specs.Ordering.{is_lt}
 use Rattle.std.specs.declared.cmp.Ordering.{Ordering}
@@ -16,7 +16,7 @@ use Rattle.archive_shelf.specs.Pieces.{IsFirstOf, IsFront, IsPiece}
 use Rattle.archive_shelf.specs.Queries.{ArePicked}
 use Rattle.capture.specs.BodyLaws.{CapturesHaveOnePayload}
 use Rattle.capture.specs.Captures.{captures, captures_in}
-use Rattle.capture.specs.Fields.{named_values}
+use Rattle.capture.specs.Fields.{NamedValue, named_values, values_of}
 use Rattle.capture.specs.declared.book.Book.{Book}
 use Rattle.capture.specs.declared.book.Volume.{Volume}
 use Rattle.capture.specs.declared.captured.Brought.{Brought}
@@ -49,12 +49,14 @@ use Rattle.replay_url.specs.Questions.{NamedTime, Nearest, Question, ForNearest,
 use Rattle.replay_url.specs.declared.form.Form.{Form}
 use Rattle.replay_url.specs.declared.form.Form.TheVariants.{Gate, Map, Number, Query, Ship}
 use Rattle.surt_key.specs.Key.{key_of}
+use Rattle.http_head.specs.Heads.{named_value}
 use Rattle.time_text.specs.Blanks.{trim_blanks}
+use Rattle.time_text.specs.declared.TheConstants.{LATEST}
 use Rattle.time_text.specs.Reading.{IsHttpDate}
 use Rattle.warc_text.specs.Growth.{NumbersHaveOneGroup}
 use Rattle.warc_text.specs.Records.{info_text}
-use Rattle.session.specs.Rounds.{Visited, disk_fault}
-use Rattle.session.specs.SiteAnswers.{SiteRequest, SiteReply, Refuses, Redirects, Replays, Lists, Finds, Ships, HasNoMore, Asks, IsSiteReply, IsSiteText, IsSoughtTime, Reaches, Wants, date_field, serves_method}
+use Rattle.session.specs.Rounds.{Visited, IsTextOf, disk_fault}
+use Rattle.session.specs.SiteAnswers.{SiteRequest, SiteReply, Refuses, Redirects, Replays, Lists, Finds, Ships, HasNoMore, Asks, IsSiteReply, IsSoughtTime, Reaches, Wants, serves_method}
 use Rattle.session.specs.Traces.{Terms, View}
 use Rattle.session.proofs.CompleteLaws.{told_not_untold}
 use Rattle.session.proofs.FormLaws.{dated, formed, timed, unserved}
@@ -73,13 +75,17 @@ time_once : (value : List ℕ) (a b : ℕ) → IsHttpDate value a → IsHttpDate
 time_once value a b (d, shows, is) (c, also, too) =
     sym is ∙ ap (λ (p : DateParts). parts_secs p * 1000) (IsDateText_unique value d c shows also) ∙ too
 
-gate_time_once : (field : Option (List ℕ)) (a b : ℕ) → IsSoughtTime None field a → IsSoughtTime None field b → a ≡ b
+-- the time that a field of a gate names, or the latest
+abbrev IsGateTime : Option (List ℕ) → ℕ → Type 0
+IsGateTime field time = MatchOption field (time ≡ LATEST) (λ value. IsHttpDate (trim_blanks value) time)
+
+gate_time_once : (field : Option (List ℕ)) (a b : ℕ) → IsGateTime field a → IsGateTime field b → a ≡ b
 gate_time_once (Some value) a b h k = time_once (trim_blanks value) a b h k
 gate_time_once None a b h k = h ∙ sym k
 
-sought_once : (named : Option NamedTime) (field : Option (List ℕ)) (a b : ℕ) → IsSoughtTime named field a → IsSoughtTime named field b → a ≡ b
-sought_once (Some time) field a b h k = h ∙ sym k
-sought_once None field a b h k = gate_time_once field a b h k
+sought_once : (named : Option NamedTime) (fields : List NamedValue) (a b : ℕ) → IsSoughtTime named fields a → IsSoughtTime named fields b → a ≡ b
+sought_once (Some time) fields a b h k = h ∙ sym k
+sought_once None fields a b h k = gate_time_once (slice_get (values_of (codes "accept-datetime") fields) 0) a b h k
 
 -- ---- entries
 
@@ -225,7 +231,7 @@ data Answers (terms : Terms) (q : SiteRequest) (view : View) (reply : SiteReply)
   Timeless : (is : reply ≡ Refuses BadTime) (served : serves_method q.message.head.method ≡ true) (bad : BadTimeAt (parts_at q.address))
       → Answers terms q view reply
   Dateless : (is : reply ≡ Refuses BadAcceptDatetime) (served : serves_method q.message.head.method ≡ true) (url : List ℕ)
-      (gate : IsForm q.address (Gate url)) (none : (time : ℕ) → IsSoughtTime None (date_field q) time → ⊥) → Answers terms q view reply
+      (gate : IsForm q.address (Gate url)) (none : (time : ℕ) → IsSoughtTime None (map named_value q.message.head.fields) time → ⊥) → Answers terms q view reply
   Asking : (form : Form) (asks : Asks q form) (follows : Follows terms q view (question_of form) reply) → Answers terms q view reply
 
 -- by the question of the form
@@ -327,7 +333,7 @@ module _ (laws : Finding) (terms : Terms) (q : SiteRequest) (view : View) (later
   reached_once : (sought : Nearest) (a b : Facts) → Reaches q view.shown sought a → Reaches q view.shown sought b → a ≡ b
   reached_once sought a b h k =
       let key : h.key ≡ k.key = same_Some h.key k.key (sym h.keyed ∙ k.keyed) in
-      let time : h.time ≡ k.time = sought_once sought.named (date_field q) h.time k.time h.timed k.timed in
+      let time : h.time ≡ k.time = sought_once sought.named (map named_value q.message.head.fields) h.time k.time h.timed k.timed in
       nearest_once laws.groups later view.shown k.key k.time a b are
       (subst (λ (n : ℕ). IsNearest view.shown k.key n a) time (subst (λ (t : List ℕ). IsNearest view.shown t h.time a) key h.nearest)) k.nearest
 
@@ -477,8 +483,8 @@ memento_once one base capture delivery a b h k =
     ∙ ap (λ (t : List ℕ). capture_lines base capture delivery.raw (parts_of k.head) ++ answer_rest (grammar.status_code k.head) delivery.answers_head delivery.closes t) body
     ∙ sym k.whole
 
-pub text_once : OneSplit → (terms : Terms) (q : SiteRequest) (reply : SiteReply) (closes : Bool) (a b : List ℕ) → IsSiteText terms q reply closes a
-    → IsSiteText terms q reply closes b → a ≡ b
+pub text_once : OneSplit → (terms : Terms) (q : SiteRequest) (reply : SiteReply) (closes : Bool) (a b : List ℕ) → IsTextOf terms (Visited q reply) closes a
+    → IsTextOf terms (Visited q reply) closes b → a ≡ b
 text_once one terms q (Refuses refusal) closes a b h k = h ∙ sym k
 text_once one terms q (Redirects sought entry) closes a b h k = h ∙ sym k
 text_once one terms q (Replays question brought) closes a b h k = memento_once one terms.site.base brought _ a b h k

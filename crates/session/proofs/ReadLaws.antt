@@ -3,7 +3,7 @@ use Rattle.std.proofs.Common.{◌≡◌, ◌≢◌, inl, inr, ℕ, ◌+◌, ◌-
 use Rattle.std.proofs.Math.Seq.{drop-append_seam}
 use Rattle.httparse.proofs.GrammarLemmas.{request_unique}
 use Rattle.httparse.specs.Grammar.{RequestHead as GrammarHead, ReadsRequest}
-use Rattle.std.specs.Prelude.{IsSome, IfOk, OnOk, IfErr, is_ok, ◌&&◌, if◌then◌else◌}
+use Rattle.std.specs.Prelude.{IsSome, codes, IfOk, OnOk, IfErr, is_ok, ◌&&◌, if◌then◌else◌}
 use Rattle.capture.specs.Faults.{Rose}
 use Rattle.capture.specs.First.{Requests, Refused, NothingBegun, HeadNeeded, IsFirst, BehindHead, IsNoHead, BeginsBody}
 use Rattle.capture.specs.Head.{front_of}
@@ -32,7 +32,7 @@ use Rattle.http_wire.specs.Reading.{Standing, Open, Failed, EndsInside}
 use Rattle.http_wire.specs.Reading.{IsUndecided as WireUndecided, LacksHead as WireLacksHead}
 use Rattle.outside.specs.declared.gate.Heard.{Heard}
 use Rattle.session.specs.steps.Reads.{Client, HasTaken, HasRead, AwaitsRest, ReadsNone, NoMore, Breaking, Refusing, GivingUp, Owes, ComesFaulty, IsBehind, IsWellAsked, LooksAt, ReadsBody, RefusesAim, IsAimed, IsAimedNowhere, answers_head}
-use Rattle.session.specs.Requests.{IsInside, IsInterim, IsRefused, IsUndecided, continue_text, interim_of, refusal_of}
+use Rattle.session.specs.Requests.{IsInside, IsInterim, IsRefused, IsUndecided, interim_of, refusal_of}
 use Rattle.session.specs.steps.Wire.{EndsRefusal, Says, Tries, Writes}
 use Rattle.session.specs.declared.reading.Asked.{Asked}
 use Rattle.session.specs.declared.served.Served.{Served}
@@ -307,29 +307,39 @@ pub aim_ends : (site : Site) (head : RequestHead) (fault : AimFault) (asks : Boo
 aim_ends site head aim_fault.ConnectRefused asks before now end is asked h =
     inl (
       refusals.ConnectRefused,
-      (aim_fault.ConnectRefused, is, refl),
+      inl (is, refl),
       subst (λ (b : Bool). EndsRefusal refusals.ConnectRefused (refusal_text refusals.ConnectRefused b true) before now end) asked h,
     )
 aim_ends site head aim_fault.SecureRefused asks before now end is asked h =
     inl (
       refusals.SecureRefused,
-      (aim_fault.SecureRefused, is, refl),
+      inr (inl (is, refl)),
       subst (λ (b : Bool). EndsRefusal refusals.SecureRefused (refusal_text refusals.SecureRefused b true) before now end) asked h,
     )
 aim_ends site head aim_fault.TargetRefused asks before now end is asked h =
     inl (
       refusals.TargetRefused,
-      (aim_fault.TargetRefused, is, refl),
+      inr (inr (is, refl)),
       subst (λ (b : Bool). EndsRefusal refusals.TargetRefused (refusal_text refusals.TargetRefused b true) before now end) asked h,
     )
 aim_ends site head aim_fault.Memory asks before now end is asked h = inr (inl h)
 
+-- why a head goes nowhere
+pub aims_nowhere : (site : Site) (head : RequestHead) (refusal : Refusal) → IsAimedNowhere site head refusal
+    → (fault : AimFault) × (aim_of site head.method head.target ≡ Err fault)
+aims_nowhere site head refusal (inl (is, told)) = (aim_fault.ConnectRefused, is)
+aims_nowhere site head refusal (inr (inl (is, told))) = (aim_fault.SecureRefused, is)
+aims_nowhere site head refusal (inr (inr (is, told))) = (aim_fault.TargetRefused, is)
+
 -- a head that goes nowhere asks for nothing
 nowhere_asks : (site : Site) (head : RequestHead) (refusal : Refusal) → IsAimedNowhere site head refusal → interim_of site head ≡ []
-nowhere_asks site head refusal h = by_aim (aim_of site head.method head.target) (waits_for_answer head) h.0 h.1 where
-  by_aim : (aim : Result Aim AimFault) (waits : Bool) (fault : AimFault) → aim ≡ Err fault → (if is_ok aim && waits then continue_text else []) ≡ []
-  by_aim (Err fault) waits f e = refl
-  by_aim (Ok aim) waits f e = absurd (cc)
+nowhere_asks site head refusal h =
+    let off = aims_nowhere site head refusal h in
+    by_aim (aim_of site head.method head.target) (waits_for_answer head) off.0 off.1 where
+      by_aim : (aim : Result Aim AimFault) (waits : Bool) (fault : AimFault) → aim ≡ Err fault
+          → (if is_ok aim && waits then codes "HTTP/1.1 100 Continue\r\n\r\n" else []) ≡ []
+      by_aim (Err fault) waits f e = refl
+      by_aim (Ok aim) waits f e = absurd (cc)
 
 -- a head that goes nowhere is refused with the bytes that begin with it, or there was no memory, or the link failed in what it
 -- asks for

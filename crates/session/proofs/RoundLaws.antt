@@ -85,8 +85,7 @@ lacking_lawful : (terms : Terms) (served : ℕ) (wire interim : List ℕ) (view 
     → IsInterim terms.site wire interim ⊎ (interim ≡ []) → IsRound terms served (lacking_round wire interim view)
 lacking_lawful terms served wire interim view known = record {
   decided = (refl, record { book = refl; shown = shown_itself terms.alone view.shown }, inl (refl, refl));
-  kept = λ lacking. refl;
-  no_refusal = λ lacking. refl;
+  lacking = λ lacked. inl refl;
   dialer = none_met view.dialer_faults;
   disk = none_met view.disk_faults;
   interim_is = elim known [ inl is ↦ inl is | inr none ↦ inr (refl, none) ];
@@ -142,21 +141,20 @@ refusal_round head refusal wire interim view = record {
   text = refusal_text refusal (answers_head head) true;
 }
 
-refusal_text_is : (terms : Terms) (served : ℕ) (head : Option RequestHead) (refusal : Refusal)
-    → IsTextOf terms served (Refused head refusal) (refusal_text refusal (answers_head head) true)
-refusal_text_is terms served None refusal = refl
-refusal_text_is terms served (Some head) refusal = refl
+refusal_text_is : (terms : Terms) (head : Option RequestHead) (refusal : Refusal)
+    → IsTextOf terms (Refused head refusal) true (refusal_text refusal (answers_head head) true)
+refusal_text_is terms None refusal = refl
+refusal_text_is terms (Some head) refusal = refl
 
 refusal_lawful : (terms : Terms) (served : ℕ) (head : Option RequestHead) (refusal : Refusal) (wire interim : List ℕ) (view : View)
     → IsRefused terms.site wire head refusal → IsInterim terms.site wire interim → IsRound terms served (refusal_round head refusal wire interim view)
 refusal_lawful terms served head refusal wire interim view is known = record {
   decided = (is, record { times = refl; transcripts = refl; untouched = record { book = refl; shown = shown_itself terms.alone view.shown } });
-  kept = λ lacking. refl;
-  no_refusal = sufficed;
+  lacking = sufficed;
   dialer = none_met view.dialer_faults;
   disk = none_met view.disk_faults;
   interim_is = inl known;
-  text_is = refusal_text_is terms served head refusal;
+  text_is = refusal_text_is terms head refusal;
 }
 
 -- the bytes are refused, by how the connection then ends
@@ -181,7 +179,7 @@ refused_bytes alone setting head refusal wire interim from to now result itself 
     closed = refl;
     accounts = λ done given. w.same_given ∙ taken.accounts done given;
     said = says_then interim (refusal_text refusal (answers_head head) true) from.world.heard to.heard _ taken.said w;
-    ends = λ all. (w.whole, refl, ap (λ (x : Refusal). x ∷ []) (sym e), all);
+    ends = λ all. (w.whole, refl, ([], r, head, refl, ap (λ (x : Refusal). Refused head x) (sym e)), all);
   })
   by_result ClientBroke broken = last_part alone setting r to.pending from (heard_now from.world now) ClientBroke itself (record {
     made = made;

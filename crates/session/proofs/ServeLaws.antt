@@ -1,7 +1,6 @@
 -- What the steps of serving make of a connection.
 use Rattle.std.proofs.Common.{◌≡◌, ◌≢◌, inl, inr, ℕ, ◌+◌, ◌<◌, Bool, true, false, ◌||◌, ◌==◌, IsTrue, List, [], ◌++◌, refl, sym, ◌∙◌, ap, arith}
 use Rattle.std.proofs.lemmas.Bool.{eqb-false}
-use Rattle.std.proofs.lemmas.List.{append-nil}
 use Rattle.archive_shelf.specs.Laws.{BooksLeadToThemselves}
 use Rattle.capture.specs.declared.site.Site.{Site}
 use Rattle.exchange.specs.Refusals.{memory_text}
@@ -15,12 +14,12 @@ use Rattle.session.specs.steps.Stages.{Stage, IsRemainder, closes}
 use Rattle.session.specs.steps.Endings.{client_at, heard_now}
 use Rattle.session.specs.Gains.{World}
 use Rattle.session.specs.steps.Reads.{Client, HasRead, HasTaken, ReadsNone, NoMore, Breaking, Refusing, GivingUp}
-use Rattle.session.specs.Rounds.{Round, Outcome, refusal_in}
+use Rattle.session.specs.Rounds.{Round}
 use Rattle.session.specs.steps.Wire.{Breaks, Tries, Writes}
 use Rattle.session.specs.steps.Givens.{Given}
 use Rattle.session.specs.declared.served.Served.{Served}
 use Rattle.session.specs.declared.served.Served.TheVariants.{Done, ClientBroke, WantOfMemory}
-use Rattle.session.proofs.CourseLaws.{part_behind, then_on}
+use Rattle.session.proofs.CourseLaws.{none_unrefused, part_behind, then_on, unrefused_behind}
 use Rattle.session.proofs.EndingLaws.{last_whole, last_part, no_round, broke_inside}
 use Rattle.session.proofs.RoundLaws.{gave_up, refused_bytes}
 use Rattle.session.proofs.SayLaws.{says_then}
@@ -49,9 +48,6 @@ round_of {alone} {setting} {incoming} {lacked} {text} makes = record {
   interim = incoming.interim;
   text = text;
 }
-
-none_refused : (outcome : Outcome) → refusal_in outcome ≡ [] → refusal_in outcome ++ [] ≡ []
-none_refused outcome e = append-nil (refusal_in outcome) ∙ e
 
 -- there was no memory to answer it
 pub answer_lacked : (alone : Bool) (setting : Setting) (from : Stage) (incoming : Incoming) (to : Client) (is : World)
@@ -101,7 +97,7 @@ answer_closed alone setting from incoming answer to is itself same taken answere
       closed = ends_it;
       accounts = λ done e. w.same_given ∙ taken.accounts done e;
       said = says_then incoming.interim answer.text from.world.heard to.heard _ taken.said w;
-      ends = λ all. (w.whole, refl, none_refused answered.makes.outcome answered.makes.unrefused, inl all);
+      ends = λ all. (w.whole, refl, unrefused_behind (round_of answered.makes) [] answered.makes.unrefused none_unrefused, inl all);
     })
 
 -- the answer was written, and the connection goes on

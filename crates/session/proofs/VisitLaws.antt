@@ -23,17 +23,18 @@ use Rattle.outside.specs.declared.dialer.Transcript.{Transcript}
 use Rattle.outside.specs.declared.gate.Heard.{Heard}
 use Rattle.replay_url.specs.Questions.{ForNumber}
 use Rattle.replay_url.specs.declared.form.Form.TheVariants.{Number, Ship}
+use Rattle.http_head.specs.declared.head.RequestHead.{RequestHead}
 use Rattle.session.specs.steps.Stages.{terms_at}
 use Rattle.session.specs.steps.Answering.{Incoming, MakesRound, IsAnswered, Answers, AnswersVisit}
 use Rattle.session.specs.Connection.{Setting}
 use Rattle.session.specs.steps.Declining.{Declines, DeclinesPiece, IsRefusing, refusal_by_bring}
 use Rattle.session.specs.Requests.{IsAsked, IsInterim, closes_after}
-use Rattle.session.specs.Rounds.{Round, Visited, IsRound, disk_fault, Undecided, is_from_shown, is_refusal}
-use Rattle.session.specs.SiteAnswers.{SiteRequest, SiteReply, Refuses, HasNoMore, Ships, Asks, IsSiteReply, IsSiteText, nothing_text, Replays}
+use Rattle.session.specs.Rounds.{Round, Refused, Visited, IsRound, IsTextOf, disk_fault, Undecided, is_from_shown}
+use Rattle.session.specs.SiteAnswers.{SiteRequest, SiteReply, Refuses, HasNoMore, Ships, Asks, IsSiteReply, Replays}
 use Rattle.session.specs.Traces.{Terms, View, CountsMet}
 use Rattle.capture.specs.declared.captured.Brought.{Brought}
 use Rattle.capture.specs.declared.memory.Memory.{Memory}
-use Rattle.session.specs.steps.Givens.{Given}
+use Rattle.session.specs.steps.Givens.{Given, nothing_text}
 use Rattle.session.proofs.GainLaws.{none_met, sufficed}
 use Rattle.session.proofs.StoreLaws.{images_unwritten}
 
@@ -104,6 +105,20 @@ visit_round incoming q lacked reply shown text faults was is = record {
   text = text;
 }
 
+-- the site refuses
+abbrev pub is_declined : SiteReply → Bool
+is_declined (Refuses refusal) = true
+is_declined other = false
+
+undeclined : (reply : SiteReply) → is_declined reply ≡ false → (refusal : Refusal) → reply ≢ Refuses refusal
+undeclined reply e refusal is = let bad : true ≡ false = sym (ap (λ (r : SiteReply). is_declined r) is) ∙ e in absurd (cc)
+
+visited_unrefused : (q : SiteRequest) (reply : SiteReply) (head : Option RequestHead) (refusal : Refusal) → Visited q reply ≢ Refused head refusal
+visited_unrefused q reply head refusal e = cc
+
+undecided_unrefused : (head : Option RequestHead) (refusal : Refusal) → Undecided ≢ Refused head refusal
+undecided_unrefused head refusal e = cc
+
 -- a lawful round was made, where its text is told
 visited : (alone : Bool) (setting : Setting) (incoming : Incoming) (q : SiteRequest) (lacked : Bool) (reply : SiteReply) (shown : List Facts)
     (text : List ℕ) (was is : Told) (then now : Heard) (answers : List ℕ) (links : Links Transcript) (faults : ℕ)
@@ -128,7 +143,7 @@ visited alone setting incoming q lacked reply shown text was is then now answers
     };
     images = images_unwritten alone setting.site (visit_round incoming q lacked reply shown text faults was is) was is refl earlier h.reads.unwritten;
   };
-  unrefused = refl;
+  unrefused = visited_unrefused q reply;
 }
 
 -- the reply was answered
@@ -137,7 +152,7 @@ pub visit_answered : (alone : Bool) (setting : Setting) (incoming : Incoming) (q
     → IsEarlier is.crash → closes ≡ closes_after incoming.served q.message.head
     → IsAsked setting.site incoming.wire q.message (ToSite q.address) → IsInterim setting.site incoming.wire incoming.interim
     → Visits alone setting q reply shown was is → answer.closes ≡ closes
-    → IsSiteText (terms_at alone setting was) q reply closes answer.text
+    → IsTextOf (terms_at alone setting was) (Visited q reply) closes answer.text
     → IsAnswered alone setting incoming answer
     (record { heard = then; answers = answers; links = links; dialer_faults = faults; shelf = was })
     (record { heard = now; answers = answers; links = links; dialer_faults = faults; shelf = is })
@@ -147,10 +162,9 @@ visit_answered alone setting incoming q reply shown answer closes was is then no
     decided = (asked, record { times = refl; transcripts = refl; untouched = record { book = refl; shown = h.later } }, h.by faults);
     dialer = none_met faults;
     disk = counts alone setting q reply shown was is h;
-    kept = λ lacking. refl;
-    no_refusal = sufficed;
+    lacking = sufficed;
     interim_is = inl known;
-    text_is = subst (λ (b : Bool). IsSiteText (terms_at alone setting was) q reply b answer.text) closing text;
+    text_is = subst (λ (b : Bool). IsTextOf (terms_at alone setting was) (Visited q reply) b answer.text) closing text;
   });
   closes_is = sym closing ∙ sym closed;
 }
@@ -159,7 +173,7 @@ visit_answered alone setting incoming q reply shown answer closes was is then no
 pub visit_lacked : (alone : Bool) (setting : Setting) (incoming : Incoming) (q : SiteRequest) (reply : SiteReply) (shown : List Facts)
     (was is : Told) (then now : Heard) (answers : List ℕ) (links : Links Transcript) (faults : ℕ)
     → IsEarlier is.crash → IsAsked setting.site incoming.wire q.message (ToSite q.address) → IsInterim setting.site incoming.wire incoming.interim
-    → Visits alone setting q reply shown was is → is_refusal (Visited q reply) ≡ false
+    → Visits alone setting q reply shown was is → is_declined reply ≡ false
     → MakesRound alone setting incoming true memory_text
     (record { heard = then; answers = answers; links = links; dialer_faults = faults; shelf = was })
     (record { heard = now; answers = answers; links = links; dialer_faults = faults; shelf = is })
@@ -168,8 +182,7 @@ visit_lacked alone setting incoming q reply shown was is then now answers links 
       decided = (asked, record { times = refl; transcripts = refl; untouched = record { book = refl; shown = h.later } }, h.by faults);
       dialer = none_met faults;
       disk = counts alone setting q reply shown was is h;
-      kept = λ lacking. refl;
-      no_refusal = λ lacking. unrefused;
+      lacking = λ lacked. inr (q, reply, refl, undeclined reply unrefused);
       interim_is = inl known;
       text_is = refl;
     })
@@ -210,8 +223,7 @@ undecided alone setting incoming shown was is then now answers links faults earl
       decided = (refl, record { book = refl; shown = later }, inl (refl, refl));
       dialer = none_met faults;
       disk = stayed_met was.faults is.faults reads.faults;
-      kept = λ lacking. refl;
-      no_refusal = λ lacking. refl;
+      lacking = λ lacked. inl refl;
       interim_is = inl known;
       text_is = refl;
     };
@@ -225,14 +237,14 @@ undecided alone setting incoming shown was is then now answers links faults earl
     };
     images = images_unwritten alone setting.site (undecided_round incoming shown faults was is) was is refl earlier reads.unwritten;
   };
-  unrefused = refl;
+  unrefused = undecided_unrefused;
 }
 
 -- the one or the other
 pub visit_answers : (alone : Bool) (setting : Setting) (q : SiteRequest) (reply : SiteReply) (shown : List Facts) (closes : Bool)
     (result : Result Given Memory) (was is : Told) (incoming : Incoming) (then now : Heard) (answers : List ℕ) (links : Links Transcript) (faults : ℕ)
-    → IsEarlier is.crash → Visits alone setting q reply shown was is → is_refusal (Visited q reply) ≡ false
-    → IfOk result (λ answer. IsSiteText (terms_at alone setting was) q reply closes answer.text) → IfOk result (λ answer. answer.closes ≡ closes)
+    → IsEarlier is.crash → Visits alone setting q reply shown was is → is_declined reply ≡ false
+    → IfOk result (λ answer. IsTextOf (terms_at alone setting was) (Visited q reply) closes answer.text) → IfOk result (λ answer. answer.closes ≡ closes)
     → closes ≡ closes_after incoming.served q.message.head
     → IsAsked setting.site incoming.wire q.message (ToSite q.address) → IsInterim setting.site incoming.wire incoming.interim
     → Answers alone setting incoming result
@@ -321,9 +333,9 @@ piece_shipped terms q number piece is faults disk asks (there, some, known) same
 -- a request that is answered by what was brought
 pub bring_answers : (alone : Bool) (setting : Setting) (q : SiteRequest) (reply : SiteReply) (closes fault : Bool)
     (result : Result Given Memory) (was is : Told) → IsEarlier is.crash → ReadsOn alone fault was is
-    → disk_fault (Visited q reply) ≡ one_if fault → is_from_shown (Visited q reply) ≡ false → is_refusal (Visited q reply) ≡ false
+    → disk_fault (Visited q reply) ≡ one_if fault → is_from_shown (Visited q reply) ≡ false → is_declined reply ≡ false
     → ((faults : ℕ) → IsSiteReply (terms_at alone setting was) q reply (seen_at is.contents.shown faults was is))
-    → IfOk result (λ answer. IsSiteText (terms_at alone setting was) q reply closes answer.text) → IfOk result (λ answer. answer.closes ≡ closes)
+    → IfOk result (λ answer. IsTextOf (terms_at alone setting was) (Visited q reply) closes answer.text) → IfOk result (λ answer. answer.closes ≡ closes)
     → AnswersVisit alone setting q closes result was is
 bring_answers alone setting q reply closes fault result was is earlier h met unshown unrefused by text closed incoming then now answers links faults closing asked known =
     visit_answers alone setting q reply is.contents.shown closes result was is incoming then now answers links faults earlier

@@ -19,8 +19,8 @@ use Rattle.replay_url.specs.Questions.{Question, ForNearest, ForAll, ForQuery, F
 use Rattle.replay_url.specs.declared.form.Form.{Form}
 use Rattle.session.specs.Exchanges.{Exchange, Reply, Passes, IsPassedOn}
 use Rattle.session.specs.Requests.{IsAsked, IsRefused, closes_after}
-use Rattle.session.specs.Rounds.{Round, Exchanged, Visited, IsRound}
-use Rattle.session.specs.SiteAnswers.{SiteRequest, SiteReply, Refuses, Redirects, Replays, Lists, Finds, Ships, HasNoMore, Asks, IsSiteText}
+use Rattle.session.specs.Rounds.{Round, Exchanged, Visited, IsRound, IsTextOf}
+use Rattle.session.specs.SiteAnswers.{SiteRequest, SiteReply, Refuses, Redirects, Replays, Lists, Finds, Ships, HasNoMore, Asks}
 use Rattle.session.specs.Traces.{Terms, View, Traces}
 use Rattle.surt_key.specs.Key.{key_of}
 use Rattle.time_text.specs.Texts.{InRange}
@@ -90,7 +90,7 @@ IsAnswer (HasNoMore number) = ⊤
 -- such an answer was decided, and its text was written where memory sufficed
 pub record GetsAnswer (terms : Terms) (served : ℕ) (r : Round) (q : SiteRequest) (reply : SiteReply) : Type 0 where
   pub answer : IsAnswer reply
-  pub text_is : r.lacked ≡ false → IsSiteText terms q reply (closes_after served q.message.head) r.text
+  pub text_is : r.lacked ≡ false → IsTextOf terms (Visited q reply) (closes_after served q.message.head) r.text
 
 abbrev pub CapturesThatAreThereAreReplayed : Type 0
 CapturesThatAreThereAreReplayed =

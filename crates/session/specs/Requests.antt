@@ -19,7 +19,6 @@ use Rattle.capture.specs.declared.site.Site.{Site}
 use Rattle.exchange.specs.Aim.{aim_of}
 use Rattle.exchange.specs.Texts.{connection}
 use Rattle.exchange.specs.declared.aim.Aim.{Aim}
-use Rattle.exchange.specs.declared.aim.AimFault.{AimFault}
 use Rattle.exchange.specs.declared.aim.AimFault.TheVariants as aim_fault
 use Rattle.http_head.specs.Heads.{named_value}
 use Rattle.http_head.specs.declared.head.RequestHead.{RequestHead}
@@ -46,18 +45,14 @@ abbrev pub is_persistent : Version → Bool
 is_persistent Http10 = false
 is_persistent Http11 = true
 
--- the answer that asks for the body (RFC 9110, section 15.2.1)
-unfoldable pub continue_text : List ℕ
-continue_text = codes "HTTP/1.1 100 Continue\r\n\r\n"
-
--- What is written before the body of a request with this head is read: that answer, where the head goes somewhere, tells of a body, and a field
--- `Expect: 100-continue` says that the client waits for it (RFC 9110, section 10.1.1); else nothing.
+-- What is written before the body of a request with this head is read: the answer that asks for it (RFC 9110, section 15.2.1), where the head goes somewhere,
+-- tells of a body, and a field `Expect: 100-continue` says that the client waits for that (section 10.1.1); else nothing.
 abbrev pub interim_of : Site → RequestHead → List ℕ
 interim_of site head =
     if is_ok (aim_of site head.method head.target)
     && (tells_body (told_by_request head) && is_persistent head.version
     && list_any (λ (field : NamedValue). is_named (codes "expect") field && bytes_eq (lowered field.1) (codes "100-continue")) (map named_value head.fields))
-    then continue_text else []
+    then codes "HTTP/1.1 100 Continue\r\n\r\n" else []
 
 -- the connection closes after a request with this head, behind so many others: by its version, by a field Connection that lists `close`, in whatever
 -- case (RFC 9112, section 9.6), or by its number
@@ -93,13 +88,6 @@ pub record IsAsked (site : Site) (wire : List ℕ) (message : RequestMessage) (a
 
 -- ---- refusals
 
--- the refusal of a head that asks to go nowhere
-abbrev pub IsAimRefusal : AimFault → Refusal → Type 0
-IsAimRefusal aim_fault.ConnectRefused refusal = refusal ≡ ConnectRefused
-IsAimRefusal aim_fault.SecureRefused refusal = refusal ≡ SecureRefused
-IsAimRefusal aim_fault.TargetRefused refusal = refusal ≡ TargetRefused
-IsAimRefusal aim_fault.Memory refusal = ⊥
-
 -- the refusal of what is no message
 abbrev pub refusal_of : MessageFault → Refusal
 refusal_of message_fault.Malformed = Malformed
@@ -114,6 +102,8 @@ IsRefused site wire None refusal =
     ((front_of wire ≡ head_front.TooLong) × (refusal ≡ HeadTooLong)) ⊎ (HasNoHead Requests wire × (refusal ≡ Malformed))
 IsRefused site wire (Some head) refusal =
     BeginsWithRequest wire head
-    × (((fault : AimFault) × (aim_of site head.method head.target ≡ Err fault) × IsAimRefusal fault refusal)
+    × ((((aim_of site head.method head.target ≡ Err aim_fault.ConnectRefused) × (refusal ≡ ConnectRefused))
+    ⊎ ((aim_of site head.method head.target ≡ Err aim_fault.SecureRefused) × (refusal ≡ SecureRefused))
+    ⊎ ((aim_of site head.method head.target ≡ Err aim_fault.TargetRefused) × (refusal ≡ TargetRefused)))
     ⊎ ((fault : MessageFault) × ((aim : Aim) × (aim_of site head.method head.target ≡ Ok aim))
     × (RefusesAtHead Requests wire fault ⊎ RefusesBehindHead Requests wire fault) × (refusal ≡ refusal_of fault)))

@@ -1,5 +1,5 @@
 -- One connection, as rounds of a request and its answer.
-use Rattle.std.specs.Prelude.{◌≡◌, ◌⊎◌, ℕ, ◌+◌, Bool, true, false, ◌||◌, List, [], ◌∷◌, ◌++◌, length, Option, Some, None, IsTrue, MatchBool, Err}
+use Rattle.std.specs.Prelude.{◌≡◌, ◌≢◌, ◌⊎◌, ℕ, ◌+◌, Bool, true, false, ◌||◌, List, [], ◌∷◌, ◌++◌, length, codes, Option, Some, None, IsTrue, MatchBool, Err}
 use Rattle.std.specs.List.{flat_map}
 use Rattle.archive_shelf.specs.Contents.{Shows}
 use Rattle.capture.specs.Captures.{captures}
@@ -11,11 +11,17 @@ use Rattle.exchange.specs.declared.aim.Aim.TheVariants.{Site as ToSite}
 use Rattle.exchange.specs.Refusals.{refusal_text, memory_text}
 use Rattle.exchange.specs.Texts.{answered}
 use Rattle.exchange.specs.declared.fetching.FetchFault.TheVariants as fetch_fault
+use Rattle.cdx_query.specs.Answers.{media_type_of}
+use Rattle.head_lines.specs.Lines.{status_line, close_line_where}
+use Rattle.httparse.specs.Ascii.{crlf_bytes}
 use Rattle.http_head.specs.declared.head.RequestHead.{RequestHead}
-use Rattle.replay_url.specs.Questions.{ForNearest}
+use Rattle.replay_answer.specs.Mementos.{IsMemento, delivery_of}
+use Rattle.replay_url.specs.Questions.{ForNearest, is_as_received, is_by_gate}
+use Rattle.timegate.specs.Redirect.{redirect_text}
+use Rattle.timemap.specs.LinkList.{timemap_text}
 use Rattle.session.specs.Exchanges.{Exchange, Reply, Fails, Passes, Fetched, IsReply}
 use Rattle.session.specs.Requests.{IsAsked, IsRefused, IsInterim, closes_after}
-use Rattle.session.specs.SiteAnswers.{SiteRequest, SiteReply, Refuses, Redirects, Replays, Lists, Finds, IsSiteReply, IsSiteText}
+use Rattle.session.specs.SiteAnswers.{SiteRequest, SiteReply, Refuses, Redirects, Replays, Lists, Finds, Ships, HasNoMore, IsSiteReply, found_text}
 use Rattle.session.specs.Traces.{Terms, View, Traces, IsIdle, LeadsView, CountsMet, StaysView}
 
 -- What was decided of a client's bytes: nothing; they were refused for themselves, with a head or without one; they are a request
@@ -45,15 +51,6 @@ closes_outcome served (Refused head refusal) = true
 closes_outcome served (Exchanged e (Fails refusal)) = closes_after served e.message.head
 closes_outcome served (Exchanged e (Passes received payload)) = received.cut || closes_after served e.message.head
 closes_outcome served (Visited q reply) = closes_after served q.message.head
-
--- ---- refusals
-
--- whether it refuses the client's bytes, or their request
-abbrev pub is_refusal : Outcome → Bool
-is_refusal (Refused head refusal) = true
-is_refusal (Exchanged e (Fails refusal)) = true
-is_refusal (Visited q (Refuses refusal)) = true
-is_refusal other = false
 
 -- ---- faults
 
@@ -85,16 +82,28 @@ IsDecided terms r (Exchanged e reply) =
 IsDecided terms r (Visited q reply) =
     IsAsked terms.site r.wire q.message (ToSite q.address) × IsIdle terms r.traces × IsSiteReply terms q reply r.traces.before
 
--- the text of an answer, where memory sufficed
-abbrev pub IsTextOf : Terms → ℕ → Outcome → List ℕ → Type 0
-IsTextOf terms served Undecided text = text ≡ memory_text
-IsTextOf terms served (Refused None refusal) text = text ≡ refusal_text refusal false true
-IsTextOf terms served (Refused (Some head) refusal) text = text ≡ refusal_text refusal (asks_for_head head.method) true
-IsTextOf terms served (Exchanged e (Fails refusal)) text =
-    text ≡ refusal_text refusal (asks_for_head e.message.head.method) (closes_after served e.message.head)
-IsTextOf terms served (Exchanged e (Passes received payload)) text =
-    text ≡ answered received payload (asks_for_head e.message.head.method) (received.cut || closes_after served e.message.head)
-IsTextOf terms served (Visited q reply) text = IsSiteText terms q reply (closes_after served q.message.head) text
+-- The text of an answer, where memory sufficed, by whether the connection closes with it. The type of a list of links is that of RFC 6690, section 7.3;
+-- where the next piece is still to come there is nothing as yet (RFC 9110, section 15.3.5).
+abbrev pub IsTextOf : Terms → Outcome → Bool → List ℕ → Type 0
+IsTextOf terms Undecided closes text = text ≡ memory_text
+IsTextOf terms (Refused None refusal) closes text = text ≡ refusal_text refusal false closes
+IsTextOf terms (Refused (Some head) refusal) closes text = text ≡ refusal_text refusal (asks_for_head head.method) closes
+IsTextOf terms (Exchanged e (Fails refusal)) closes text = text ≡ refusal_text refusal (asks_for_head e.message.head.method) closes
+IsTextOf terms (Exchanged e (Passes received payload)) closes text =
+    text ≡ answered received payload (asks_for_head e.message.head.method) closes
+IsTextOf terms (Visited q (Refuses refusal)) closes text = text ≡ refusal_text refusal (asks_for_head q.message.head.method) closes
+IsTextOf terms (Visited q (Redirects sought entry)) closes text =
+    text ≡ redirect_text terms.site.base sought.url entry sought.raw (is_by_gate sought) closes
+IsTextOf terms (Visited q (Replays question brought)) closes text =
+    IsMemento terms.site.base brought (delivery_of (is_as_received question) (asks_for_head q.message.head.method) closes) text
+IsTextOf terms (Visited q (Lists url entries)) closes text =
+    text ≡ found_text (codes "application/link-format") (timemap_text terms.site.base url entries) (asks_for_head q.message.head.method) closes
+IsTextOf terms (Visited q (Finds query found)) closes text =
+    text ≡ found_text (media_type_of query.json) found (asks_for_head q.message.head.method) closes
+IsTextOf terms (Visited q (Ships number piece)) closes text =
+    text ≡ found_text (codes "application/warc") piece (asks_for_head q.message.head.method) closes
+IsTextOf terms (Visited q (HasNoMore number)) closes text =
+    text ≡ status_line 204 (codes "No Content") ++ close_line_where closes ++ crlf_bytes
 
 -- the number of the capture that was stored
 abbrev pub numbers_by : Outcome → View → List ℕ
@@ -104,16 +113,16 @@ numbers_by (Exchanged e (Fails refusal)) before = []
 numbers_by (Exchanged e (Passes received payload)) before = length (captures before.book) ∷ []
 numbers_by (Visited q reply) before = []
 
--- A lawful round, behind so many requests. The counts of faults rose by what it met, and else stayed; and where memory ran out nothing
--- was stored, and nothing was refused: no memory is needed to refuse.
+-- A lawful round, behind so many requests. The counts of faults rose by what it met, and else stayed. Memory may run out before anything is decided, or
+-- for the text of an answer of the site's: where it did nothing was stored, and nothing was refused, since no memory is needed to refuse.
 pub record IsRound (terms : Terms) (served : ℕ) (r : Round) : Type 0 where
   pub decided : IsDecided terms r r.outcome
   pub dialer : CountsMet (origin_fault r.outcome) r.traces.before.dialer_faults r.traces.after.dialer_faults
   pub disk : CountsMet (disk_fault r.outcome) r.traces.before.disk_faults r.traces.after.disk_faults
-  pub kept : IsTrue r.lacked → numbers_by r.outcome r.traces.before ≡ []
-  pub no_refusal : IsTrue r.lacked → is_refusal r.outcome ≡ false
+  pub lacking : IsTrue r.lacked → (r.outcome ≡ Undecided)
+      ⊎ ((q : SiteRequest) × (reply : SiteReply) × (r.outcome ≡ Visited q reply) × ((refusal : Refusal) → reply ≢ Refuses refusal))
   pub interim_is : IsInterim terms.site r.wire r.interim ⊎ (IsTrue r.lacked × (r.interim ≡ []))
-  pub text_is : MatchBool r.lacked (r.text ≡ memory_text) (IsTextOf terms served r.outcome r.text)
+  pub text_is : MatchBool r.lacked (r.text ≡ memory_text) (IsTextOf terms r.outcome (closes_outcome served r.outcome) r.text)
 
 -- ---- courses
 
@@ -161,13 +170,3 @@ is_closed served (r ∷ rounds) = (r.lacked || closes_outcome served r.outcome) 
 abbrev pub lacks : List Round → Bool
 lacks [] = false
 lacks (r ∷ rounds) = r.lacked || lacks rounds
-
--- the bytes that were refused for themselves, of which a lawful course has some at its end alone
-abbrev pub refusal_in : Outcome → List Refusal
-refusal_in Undecided = []
-refusal_in (Refused head refusal) = refusal ∷ []
-refusal_in (Exchanged e reply) = []
-refusal_in (Visited q reply) = []
-
-abbrev pub refusals : List Round → List Refusal
-refusals rounds = flat_map (λ r. refusal_in r.outcome) rounds

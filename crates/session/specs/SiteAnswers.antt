@@ -1,32 +1,29 @@
 -- A request to the archive's own site, and how it is answered (RFC 7089, sections 2 to 5). Refusals come in this order: for the
 -- method, for the address, for the date or the query that is asked for, for want of a capture, for the disk.
-use Rattle.std.specs.Prelude.{◌≡◌, ◌≢◌, ◌⊎◌, ℕ, ◌<◌, ◌≤◌, Bool, true, false, ◌||◌, List, [], ◌++◌, length, map, codes, bytes_eq, Contains, Option, Some, None, IsTrue, ⊤, slice_get}
+use Rattle.std.specs.Prelude.{◌≡◌, ◌≢◌, ◌⊎◌, ℕ, ◌<◌, ◌≤◌, Bool, true, false, ◌||◌, List, [], ◌++◌, length, map, codes, bytes_eq, Contains, Option, Some, None, IsTrue, MatchOption, slice_get}
 use Rattle.archive_shelf.specs.Answers.{BringsAsShown, IsBrought, IsDamaged, IsNamed, IsReplayable}
 use Rattle.archive_shelf.specs.Pieces.{IsPiece, IsSomePiece}
 use Rattle.archive_shelf.specs.Queries.{ArePicked}
 use Rattle.capture.specs.Captures.{captures}
-use Rattle.capture.specs.Fields.{values_of}
+use Rattle.capture.specs.Fields.{NamedValue, values_of}
 use Rattle.capture.specs.Methods.{asks_for_head}
 use Rattle.capture.specs.declared.captured.Brought.{Brought}
 use Rattle.capture.specs.declared.refusal.Refusal.{Refusal}
 use Rattle.capture.specs.declared.refusal.Refusal.TheVariants.{MethodRefused, NotAForm, BadTime, BadAcceptDatetime, BadQuery, NoSuch, NoCapture, DiskFault, Damaged}
 use Rattle.capture.specs.declared.captured.Stored.{Stored}
 use Rattle.capture.specs.declared.captured.Kept.TheVariants.{Same}
-use Rattle.cdx_query.specs.Answers.{IsAnswer, media_type_of}
+use Rattle.cdx_query.specs.Answers.{IsAnswer}
 use Rattle.cdx_query.specs.Reading.{IsQuery}
 use Rattle.cdx_query.specs.declared.query.Query.{Query}
 use Rattle.cdxj_index.specs.Facts.{Facts}
 use Rattle.cdxj_index.specs.OfBook.{IsEntryOf}
 use Rattle.cdxj_index.specs.Queries.{HasNone, IsNearest}
-use Rattle.exchange.specs.Refusals.{refusal_text}
-use Rattle.head_lines.specs.Lines.{own_status_line, status_line, type_line, head_end, body_unless, close_line_where}
+use Rattle.head_lines.specs.Lines.{own_status_line, type_line, head_end, body_unless}
 use Rattle.head_lines.specs.declared.status.Status.TheVariants as status
-use Rattle.httparse.specs.Ascii.{crlf_bytes}
 use Rattle.http_head.specs.Heads.{named_value}
 use Rattle.http_head.specs.declared.head.RequestMessage.{RequestMessage}
-use Rattle.replay_answer.specs.Mementos.{IsMemento, delivery_of}
 use Rattle.replay_url.specs.Forms.{IsForm, IsFault}
-use Rattle.replay_url.specs.Questions.{NamedTime, Nearest, Question, ForNearest, ForAll, ForQuery, ForNumber, ForPiece, asked_url, is_as_received, is_by_gate, names_date, question_of}
+use Rattle.replay_url.specs.Questions.{NamedTime, Nearest, Question, ForNearest, ForNumber, asked_url, names_date, question_of}
 use Rattle.replay_url.specs.declared.fault.FormFault.TheVariants as form_fault
 use Rattle.replay_url.specs.declared.form.Form.{Form}
 use Rattle.replay_url.specs.declared.form.Form.TheVariants.{Gate, Map, Number, Ship}
@@ -35,8 +32,6 @@ use Rattle.surt_key.specs.Key.{key_of}
 use Rattle.time_text.specs.Blanks.{trim_blanks}
 use Rattle.time_text.specs.Reading.{IsHttpDate}
 use Rattle.time_text.specs.declared.TheConstants.{LATEST}
-use Rattle.timegate.specs.Redirect.{redirect_text}
-use Rattle.timemap.specs.LinkList.{timemap_text}
 use Rattle.session.specs.Traces.{Terms, View}
 
 -- a request, and what stands behind the site's authority in its target
@@ -61,30 +56,18 @@ serves_method method = bytes_eq method (codes "GET") || asks_for_head method
 
 -- ---- what is asked for
 
--- the first field Accept-Datetime (RFC 7089, section 2.1.1)
-abbrev pub date_field : SiteRequest → Option (List ℕ)
-date_field q = slice_get (values_of (codes "accept-datetime") (map named_value q.message.head.fields)) 0
+-- The time that a capture is to be nearest to: the one that the address names, or the one that a gate is asked for, by its first field
+-- Accept-Datetime (RFC 7089, section 2.1.1), or the latest, where there is none.
+abbrev pub IsSoughtTime : Option NamedTime → List NamedValue → ℕ → Type 0
+IsSoughtTime (Some named) fields time = time ≡ named.time
+IsSoughtTime None fields time =
+    MatchOption (slice_get (values_of (codes "accept-datetime") fields) 0) (time ≡ LATEST) (λ value. IsHttpDate (trim_blanks value) time)
 
--- The time that a capture is to be nearest to: the one that the address names, or the one that a gate is asked for, by its field, or
--- the latest, where there is none.
-abbrev pub IsSoughtTime : Option NamedTime → Option (List ℕ) → ℕ → Type 0
-IsSoughtTime (Some named) field time = time ≡ named.time
-IsSoughtTime None (Some value) time = IsHttpDate (trim_blanks value) time
-IsSoughtTime None None time = time ≡ LATEST
-
--- there is such a time; the field is looked at by a gate alone
-abbrev pub IsDated : Question → Option (List ℕ) → Type 0
-IsDated (ForNearest sought) field = (time : ℕ) × IsSoughtTime sought.named field time
-IsDated (ForAll url) field = ⊤
-IsDated (ForQuery text) field = ⊤
-IsDated (ForNumber number) field = ⊤
-IsDated (ForPiece number) field = ⊤
-
--- the request asks for this form
+-- The request asks for this form. There is a time that a gate is asked for, and of no other form is that field looked at.
 pub record Asks (q : SiteRequest) (form : Form) : Type 0 where
   pub served : serves_method q.message.head.method ≡ true
   pub is : IsForm q.address form
-  pub dated : IsDated (question_of form) (date_field q)
+  pub dated : (url : List ℕ) → form ≡ Gate url → (time : ℕ) × IsSoughtTime None (map named_value q.message.head.fields) time
 
 -- the capture nearest to the time that is asked for, by what is shown
 pub record Reaches (q : SiteRequest) (shown : List Facts) (sought : Nearest) (entry : Facts) : Type 0 where
@@ -94,7 +77,7 @@ pub record Reaches (q : SiteRequest) (shown : List Facts) (sought : Nearest) (en
   pub key : List ℕ
   pub keyed : key_of sought.url ≡ Some key
   pub time : ℕ
-  pub timed : IsSoughtTime sought.named (date_field q) time
+  pub timed : IsSoughtTime sought.named (map named_value q.message.head.fields) time
   pub nearest : IsNearest shown key time entry
 
 -- The capture that is to be brought, which the book has: its number is asked for, or it is that of the nearest one, whose date the
@@ -120,7 +103,7 @@ IsSiteReply terms q (Refuses NotAForm) view = (serves_method q.message.head.meth
 IsSiteReply terms q (Refuses BadTime) view = (serves_method q.message.head.method ≡ true) × IsFault q.address form_fault.BadTime
 IsSiteReply terms q (Refuses BadAcceptDatetime) view =
     (serves_method q.message.head.method ≡ true) × ((url : List ℕ) × IsForm q.address (Gate url))
-    × ((time : ℕ) → ¬ (IsSoughtTime None (date_field q) time))
+    × ((time : ℕ) → ¬ (IsSoughtTime None (map named_value q.message.head.fields) time))
 IsSiteReply terms q (Refuses BadQuery) view = (text : List ℕ) × Asks q (Queried text) × ((query : Query) → ¬ (IsQuery text query))
 IsSiteReply terms q (Refuses (NoSuch number count)) view =
     ((Asks q (Number number) × (length (captures view.book) ≤ number)) ⊎ (Asks q (Ship number) × (length (captures view.book) < number)))
@@ -153,7 +136,7 @@ IsSiteReply terms q (Ships number piece) view =
 IsSiteReply terms q (HasNoMore number) view =
     Asks q (Ship number) × (number ≡ length (captures view.book)) × ((entry : Facts) → Contains view.shown entry → entry.number ≢ number)
 
--- ---- the texts
+-- ---- what is found
 
 -- a body of this type, as an answer
 unfoldable pub found_text : List ℕ → List ℕ → Bool → Bool → List ℕ
@@ -162,22 +145,3 @@ found_text media_type body answers_head closes =
     ++ type_line media_type
     ++ head_end (length body) closes
     ++ body_unless answers_head body
-
--- the answer that there is nothing as yet (RFC 9110, section 15.3.5)
-unfoldable pub nothing_text : Bool → List ℕ
-nothing_text closes = status_line 204 (codes "No Content") ++ close_line_where closes ++ crlf_bytes
-
--- the text of a reply; the type of a list of links is that of RFC 6690, section 7.3
-abbrev pub IsSiteText : Terms → SiteRequest → SiteReply → Bool → List ℕ → Type 0
-IsSiteText terms q (Refuses refusal) closes text = text ≡ refusal_text refusal (asks_for_head q.message.head.method) closes
-IsSiteText terms q (Redirects sought entry) closes text =
-    text ≡ redirect_text terms.site.base sought.url entry sought.raw (is_by_gate sought) closes
-IsSiteText terms q (Replays question brought) closes text =
-    IsMemento terms.site.base brought (delivery_of (is_as_received question) (asks_for_head q.message.head.method) closes) text
-IsSiteText terms q (Lists url entries) closes text =
-    text ≡ found_text (codes "application/link-format") (timemap_text terms.site.base url entries) (asks_for_head q.message.head.method) closes
-IsSiteText terms q (Finds query found) closes text =
-    text ≡ found_text (media_type_of query.json) found (asks_for_head q.message.head.method) closes
-IsSiteText terms q (Ships number piece) closes text =
-    text ≡ found_text (codes "application/warc") piece (asks_for_head q.message.head.method) closes
-IsSiteText terms q (HasNoMore number) closes text = text ≡ nothing_text closes

@@ -1,5 +1,6 @@
 -- How a connection ends.
-use Rattle.std.specs.Prelude.{◌≡◌, ◌≢◌, ◌⊎◌, ℕ, true, false, List, [], ◌∷◌, ◌++◌}
+use Rattle.std.specs.Prelude.{◌≡◌, ◌≢◌, ◌⊎◌, ℕ, true, false, List, [], ◌∷◌, ◌++◌, Option}
+use Rattle.capture.specs.declared.refusal.Refusal.{Refusal}
 use Rattle.capture.specs.declared.site.Site.{Site}
 use Rattle.capture.specs.First.{Requests, NothingBegun, IsFirst}
 use Rattle.exchange.specs.Writing.{GrowsByProperFront}
@@ -8,7 +9,7 @@ use Rattle.outside.specs.declared.gate.Heard.{Heard}
 use Rattle.http_head.specs.declared.head.RequestHead.{RequestHead}
 use Rattle.http_wire.specs.Heads.{BeginsWithRequest}
 use Rattle.session.specs.Requests.{IsInside, IsInterim, interim_of}
-use Rattle.session.specs.Rounds.{Round, course_text, is_closed, lacks, refusals}
+use Rattle.session.specs.Rounds.{Round, Refused, course_text, is_closed, lacks}
 use Rattle.session.specs.declared.served.Served.{Served}
 use Rattle.session.specs.declared.served.Served.TheVariants.{Done, ClientBroke, ClientEndedEarly, ClientRefused, WantOfMemory}
 
@@ -56,7 +57,8 @@ pub record IsLeftOver (site : Site) (c : Course) (then now : Heard) : Type 0 whe
 -- asks for a body, or in a read, at such a place. There was no memory: with the answer that says so, whole or in part.
 abbrev pub Ends : Served → Site → Course → Heard → Heard → Type 0
 Ends Done site c then now =
-    (now.faults ≡ 0) × (lacks c.rounds ≡ false) × (refusals c.rounds ≡ [])
+    (now.faults ≡ 0) × (lacks c.rounds ≡ false)
+    × ((init : List Round) (last : Round) (head : Option RequestHead) (refusal : Refusal) → c.rounds ≡ init ++ last ∷ [] → last.outcome ≢ Refused head refusal)
     × (IsClosed c then now ⊎ ((now.ended ≡ true) × IsFirst Requests true c.rest NothingBegun × IsLeftOver site c then now))
 Ends ClientBroke site c then now =
     (now.faults ≢ 0) × (lacks c.rounds ≡ false)
@@ -65,5 +67,7 @@ Ends ClientBroke site c then now =
 Ends ClientEndedEarly site c then now =
     (now.faults ≡ 0) × (lacks c.rounds ≡ false) × (now.ended ≡ true) × IsInside site c.rest × IsLeftOver site c then now
 Ends (ClientRefused refusal) site c then now =
-    (now.faults ≡ 0) × (lacks c.rounds ≡ false) × (refusals c.rounds ≡ refusal ∷ []) × IsClosed c then now
+    (now.faults ≡ 0) × (lacks c.rounds ≡ false)
+    × ((init : List Round) × (last : Round) × (head : Option RequestHead) × (c.rounds ≡ init ++ last ∷ []) × (last.outcome ≡ Refused head refusal))
+    × IsClosed c then now
 Ends WantOfMemory site c then now = (lacks c.rounds ≡ true) × (IsClosed c then now ⊎ IsCutShort c then now)

@@ -3,7 +3,7 @@ ghost use Rattle.std.specs.Prelude.{◌≡◌, ◌++◌, length, IfOk, OnOk};
 ghost use Rattle.capture.specs.Methods.{asks_for_head as is_head};
 ghost use Rattle.head_lines.specs.Lines.{head_end};
 ghost use Rattle.session.specs.SiteAnswers as spec;
-ghost use Rattle.session.specs.steps.Givens.{found_start};
+ghost use Rattle.session.specs.steps.Givens.{found_start, nothing_text};
 
 use crate::answer::Answer;
 use crate::heads::asks_for_head;
@@ -53,7 +53,7 @@ fn put_start(out: &mut Vec<u8>, media_type: &[u8]) -> Result<(), Memory>
 
 /// The answer that there is nothing as yet (RFC 9110, section 15.3.5). It has no body, and tells no length.
 pub fn nothing(alloc: Global, closes: bool) -> Result<Answer, Memory>
-    ensures text { IfOk result (λ answer. answer.text ≡ spec.nothing_text closes) }
+    ensures text { IfOk result (λ answer. answer.text ≡ nothing_text closes) }
     ensures closes { IfOk result (λ answer. answer.closes ≡ closes) }
 {
     let mut out = Vec::with_capacity(alloc, ROOM)?;
@@ -62,9 +62,8 @@ pub fn nothing(alloc: Global, closes: bool) -> Result<Answer, Memory>
 }
 
 /// Puts the head of that answer.
-#[tactic(auto, unfolding(crate::specs::SiteAnswers::nothing_text))]
 fn put_nothing(out: &mut Vec<u8>, closes: bool) -> Result<(), Memory>
-    ensures { OnOk result (out.new.items ≡ out.old.items ++ spec.nothing_text closes) }
+    ensures { OnOk result (out.new.items ≡ out.old.items ++ nothing_text closes) }
 {
     put_status_line(out, 204, b"No Content")?;
     put_close_line_where(out, closes)?;

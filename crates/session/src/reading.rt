@@ -1,5 +1,5 @@
 //! Reads a client's requests.
-ghost use Rattle.std.specs.Prelude.{◌≡◌, ◌≤◌, ℕ, [], List, true, Some, Ok, Err, IsSome, IsTrue, OnOk, IfOk, IfErr, MatchResult, if◌then◌else◌};
+ghost use Rattle.std.specs.Prelude.{◌≡◌, ◌≤◌, ℕ, [], List, true, Some, Ok, Err, IsSome, IsTrue, OnOk, IfOk, IfErr, MatchResult, codes, if◌then◌else◌};
 ghost use Rattle.capture.specs.Faults.{CountsFaults, Rose};
 ghost use Rattle.capture.specs.First.{Requests};
 ghost use Rattle.capture.specs.declared.site.Site.{Site as TheSite};
@@ -16,7 +16,6 @@ ghost use Rattle.http_wire.specs.RequestReading.{new_request};
 ghost use Rattle.outside.specs.Gate.{heard_of};
 ghost use Rattle.session.specs.steps.Reads.{AwaitsRest, Client, ComesFaulty, HasTaken, IsBehind, IsWellAsked, LooksAt, Owes, Reads, ReadsBody, ReadsNone, RefusesAim};
 ghost use Rattle.session.specs.steps.Reads as steps;
-ghost use Rattle.session.specs.Requests as spec;
 ghost use Rattle.session.specs.steps.Wire.{Breaks, EndsRefusal, Tries, Writes};
 
 use crate::Served;
@@ -303,8 +302,8 @@ fn look_at<L: Link>(
 fn go_ahead<L: Link>(client: &mut L, waits: bool) -> Result<(), Failed>
     requires { L.faults client.old ≡ 0 }
     ensures says { IsTrue L.tells → MatchResult result
-        (λ _. Writes (if waits then spec.continue_text else []) (heard_of (L.traffic client.old) (L.faults client.old)) (heard_of (L.traffic client.new) (L.faults client.new)))
-        (λ _. Breaks (if waits then spec.continue_text else []) (heard_of (L.traffic client.old) (L.faults client.old)) (heard_of (L.traffic client.new) (L.faults client.new))) }
+        (λ _. Writes (if waits then codes "HTTP/1.1 100 Continue\r\n\r\n" else []) (heard_of (L.traffic client.old) (L.faults client.old)) (heard_of (L.traffic client.new) (L.faults client.new)))
+        (λ _. Breaks (if waits then codes "HTTP/1.1 100 Continue\r\n\r\n" else []) (heard_of (L.traffic client.old) (L.faults client.old)) (heard_of (L.traffic client.new) (L.faults client.new))) }
     ensures whole { OnOk result (L.faults client.new ≡ 0) }
     ensures counts { CountsFaults (L.faults client.old) (L.faults client.new) result }
 {
@@ -315,9 +314,8 @@ fn go_ahead<L: Link>(client: &mut L, waits: bool) -> Result<(), Failed>
 }
 
 /// The answer that asks for the body (RFC 9110, section 15.2.1).
-#[tactic(auto, unfolding(crate::specs::Requests::continue_text))]
 fn continue_text() -> &'static [u8]
-    ensures { result.now ≡ spec.continue_text }
+    ensures { result.now ≡ codes "HTTP/1.1 100 Continue\r\n\r\n" }
 {
     b"HTTP/1.1 100 Continue\r\n\r\n"
 }

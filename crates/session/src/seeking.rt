@@ -63,7 +63,7 @@ fn redirect_to_nearest<S: Shelf>(
 ) -> Result<Answer, Memory>
     requires asks { Asks (record { message = visit.message.now; address = visit.address.now }) (TheGate of.now.url) }
     requires keyed { HasKey of.now }
-    requires timed { IsSoughtTime None (spec.date_field (record { message = visit.message.now; address = visit.address.now })) time }
+    requires timed { IsSoughtTime None (map named_value visit.message.now.head.fields) time }
     ensures answers { (clock_tells : Bool) → AnswersVisit S.alone (record { site = visit.entry.site.now; clock_tells = clock_tells })
         (record { message = visit.entry.message.now; address = visit.entry.address.now }) visit.entry.closes result (S.told shelf.old) (S.told shelf.new) }
     ensures closes { IfOk result (λ answer. answer.closes ≡ visit.entry.closes) }
@@ -159,7 +159,7 @@ fn lead_to(
 /// The time that a gate is asked for, by the first field Accept-Datetime (RFC 7089, section 2.1.1).
 fn gate_time(fields: &[Field]) -> Result<u64, NotATime>
     ensures { MatchResult result
-        (λ time. IsSoughtTime None (slice_get (values_of (codes "accept-datetime") (map named_value fields.now)) 0) time)
+        (λ time. IsSoughtTime None (map named_value fields.now) time)
         (λ _. NamesNoTime (slice_get (values_of (codes "accept-datetime") (map named_value fields.now)) 0)) }
 {
     match first_value(fields, b"accept-datetime") {

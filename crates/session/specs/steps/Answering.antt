@@ -1,9 +1,11 @@
 -- What answering a request leaves.
-use Rattle.std.specs.Prelude.{◌≡◌, ℕ, Bool, true, false, List, [], Result, Ok, Err}
+use Rattle.std.specs.Prelude.{◌≡◌, ◌≢◌, ℕ, Bool, true, false, List, Option, Result, Ok, Err}
 use Rattle.archive_shelf.specs.Told.{Told}
 use Rattle.capture.specs.declared.memory.Memory.{Memory}
+use Rattle.capture.specs.declared.refusal.Refusal.{Refusal}
 use Rattle.exchange.specs.Refusals.{memory_text}
 use Rattle.exchange.specs.declared.aim.Aim.TheVariants.{Site as ToSite}
+use Rattle.http_head.specs.declared.head.RequestHead.{RequestHead}
 use Rattle.outside.specs.Records.{Links}
 use Rattle.outside.specs.declared.dialer.Transcript.{Transcript}
 use Rattle.outside.specs.declared.gate.Heard.{Heard}
@@ -11,7 +13,7 @@ use Rattle.session.specs.Connection.{Setting}
 use Rattle.session.specs.steps.Stages.{IsMade}
 use Rattle.session.specs.Gains.{World}
 use Rattle.session.specs.Requests.{IsAsked, IsInterim, closes_after}
-use Rattle.session.specs.Rounds.{Outcome, closes_outcome, refusal_in}
+use Rattle.session.specs.Rounds.{Outcome, Refused, closes_outcome}
 use Rattle.session.specs.SiteAnswers.{SiteRequest}
 use Rattle.session.specs.Traces.{Traces}
 use Rattle.session.specs.steps.Givens.{Given}
@@ -36,7 +38,7 @@ module _ (alone : Bool) (setting : Setting) where
       interim = incoming.interim;
       text = text;
     }) was is
-    pub unrefused : refusal_in outcome ≡ []
+    pub unrefused : (head : Option RequestHead) (refusal : Refusal) → outcome ≢ Refused head refusal
 
   -- a lawful round was made of it, whose text this is, after which the connection closes as is told
   pub record IsAnswered (incoming : Incoming) (answer : Given) (was is : World) : Type 0 where

@@ -10,8 +10,7 @@ use Rattle.capture.specs.declared.refusal.Refusal.TheVariants as refusals
 use Rattle.exchange.specs.Refusals.{refusal_text}
 use Rattle.exchange.specs.declared.fetching.FetchFault.{FetchFault}
 use Rattle.exchange.specs.declared.fetching.FetchFault.TheVariants as fetches
-use Rattle.session.specs.steps.Givens.{Given}
-use Rattle.session.specs.SiteAnswers.{nothing_text}
+use Rattle.session.specs.steps.Givens.{Given, nothing_text}
 
 -- ---- why: or there was no memory
 

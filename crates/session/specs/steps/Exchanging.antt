@@ -24,7 +24,7 @@ use Rattle.session.specs.Exchanges.{Exchange, Reply, Fails, Passes}
 use Rattle.session.specs.Gains.{World}
 use Rattle.session.specs.Images.{KeepsImages}
 use Rattle.session.specs.Requests.{IsAsked, IsInterim, closes_after}
-use Rattle.session.specs.Rounds.{Round, Exchanged, IsDecided, disk_fault, is_refusal, numbers_by, origin_fault, Outcome, Undecided}
+use Rattle.session.specs.Rounds.{Round, Exchanged, IsDecided, disk_fault, numbers_by, origin_fault, Outcome, Undecided}
 use Rattle.session.specs.Traces.{Terms, Traces, View, CountsMet, terms_of, view_of}
 use Rattle.session.specs.steps.Givens.{Given, with_body}
 use Rattle.session.specs.declared.exchanging.Proxied.{Proxied}
@@ -158,8 +158,7 @@ module _ (alone : Bool) (site : Site) (e : Exchange) where
     pub found : Book
     pub led : Leads alone was.contents.seen found
     pub by : IsLeft was lacked reply (traces_of around found was is)
-    pub kept : IsTrue lacked → numbers_by (outcome_of e reply) (view_before around found was) ≡ []
-    pub no_refusal : IsTrue lacked → is_refusal (outcome_of e reply) ≡ false
+    pub lacking : IsTrue lacked → reply ≡ None
     pub dialer : CountsMet (origin_fault (outcome_of e reply)) around.faults_before around.faults_now
     pub disk : CountsMet (disk_fault (outcome_of e reply)) was.faults is.faults
     pub stored : is.contents ≡ record was.contents {

@@ -16,7 +16,7 @@ use Rattle.http_head.specs.declared.head.RequestMessage.{RequestMessage}
 use Rattle.http_wire.specs.Heads.{BeginsWithRequest}
 use Rattle.http_wire.specs.Messages.{IsRequest}
 use Rattle.outside.specs.declared.gate.Heard.{Heard}
-use Rattle.session.specs.Requests.{IsAsked, IsInside, IsInterim, IsRefused, IsUndecided, interim_of, IsAimRefusal}
+use Rattle.session.specs.Requests.{IsAsked, IsInside, IsInterim, IsRefused, IsUndecided, interim_of}
 use Rattle.session.specs.steps.Wire.{Breaks, EndsRefusal, Says, Tries, Writes}
 use Rattle.session.specs.declared.reading.Asked.{Asked}
 use Rattle.session.specs.declared.served.Served.{Served}
@@ -133,7 +133,10 @@ pub record ComesFaulty (from : Client) (stream interim : List ℕ) (to : Heard) 
 
 -- the head asks to go nowhere
 abbrev pub IsAimedNowhere : Site → RequestHead → Refusal → Type 0
-IsAimedNowhere site head refusal = (fault : AimFault) × (aim_of site head.method head.target ≡ Err fault) × IsAimRefusal fault refusal
+IsAimedNowhere site head refusal =
+    ((aim_of site head.method head.target ≡ Err aim_fault.ConnectRefused) × (refusal ≡ ConnectRefused))
+    ⊎ ((aim_of site head.method head.target ≡ Err aim_fault.SecureRefused) × (refusal ≡ SecureRefused))
+    ⊎ ((aim_of site head.method head.target ≡ Err aim_fault.TargetRefused) × (refusal ≡ TargetRefused))
 
 -- Where a head goes. It was told that its body is awaited, if it asks for that; or the connection ends: the head goes nowhere, or
 -- there was no memory, or the link failed.
