@@ -1,6 +1,6 @@
 -- A run over a disk that is ready isn't refused.
 use Rattle.std.proofs.Common.{◌≡◌, ◌≢◌, ◌⊎◌, ℕ, ◌-◌, ◌^◌, ◌<◌, ◌≤◌, Bool, true, true≢false, IsTrue, List, length, Option, Some, None, Result, Ok, Err, refl, sym, ap, subst, ◌∙◌, inl, inr, ⊎_elim, arith}
-use Rattle.std.specs.Prelude.{IfSome, ⊤, MatchResult, codes}
+use Rattle.std.specs.Prelude.{IfSome, ⊤, MatchResult}
 use Rattle.archive_opening.specs.Opening.{CountsFault, HoldsOther, IsDamageIn, IsOtherIn, IsOutside}
 use Rattle.archive_core.proofs.FinishedLaws.{checkpoints_later, same_checkpoints_of}
 use Rattle.archive_core.specs.Finished.{FirstAreFinished}
@@ -39,16 +39,16 @@ use Rattle.proxy_run.proofs.StatusLaws.{settled_answered}
 use Rattle.proxy_run.proofs.NextLaws.{all_next, settled_next, sound_still, stands_same}
 use Rattle.proxy_run.specs.Complete.{CapturesComeBack, ChecksAreAnswered, EndsBadly, FollowsAreAnswered, FollowsBadly, FollowsLeaveReady, ImportsAreAnswered, ImportsBadly, ImportsLeaveReady, IsFullBefore, IsNotFollowed, IsNotTaken, IsReady, IsLeftSettled, IsSteady, NoFaults, PipesAreAnswered, PipesLeaveReady, PipesLeaveSettled, PipesLeaveTheLast, PipesPassOn, ServesBadly}
 use Rattle.replica.specs.Following.{EndsBy as FollowEnds, is_disk_stop}
-use Rattle.importing.specs.Imports.{IsTellable, Tells, status_after}
+use Rattle.importing.specs.Imports.{Imports, IsTellable, Tells, status_after}
 use Rattle.importing.specs.Keeping.{EndsBy, Keeps, is_denied}
-use Rattle.command.specs.Objects.{Kinds, Objects, UsesFirst, with_one}
+use Rattle.command.specs.Objects.{Kinds, Objects, UsesFirst, objects_of, with_one}
 use Rattle.proxy_run.specs.Pipes.{HasServed, Pipes, Refuses, around_in}
 use Rattle.command.specs.Printing.{LacksMemory, Prints, printed_as}
 use Rattle.proxy_run.specs.Checks.{IsCounted}
-use Rattle.proxy_run.specs.Runs.{HasReplicated, HasTakenIn}
+use Rattle.proxy_run.specs.Follows.{Follows}
 use Rattle.proxy_run.specs.Serving.{status_of, pipe_site}
 use Rattle.replica.specs.Sources.{source_of}
-use Rattle.command.specs.Texts.{IsFaultText}
+use Rattle.command.specs.Texts.{IsFaultText, captures_line}
 use Rattle.replica.specs.declared.asking.SourceFault.TheVariants as sources
 use Rattle.replica.specs.declared.following.Stop.{Stop}
 use Rattle.replica.specs.declared.following.Stop.TheVariants.{Source, Piece}
@@ -63,7 +63,7 @@ use Rattle.session.specs.declared.served.Served.{Served}
 use Rattle.session.specs.declared.served.Served.TheVariants as served
 use Rattle.session.specs.Traces.{terms_of}
 use Rattle.crew.specs.Crews.{IsEnd}
-use Rattle.proxy_run.specs.StopTexts.{TellsStop, numbered}
+use Rattle.proxy_run.specs.StopTexts.{TellsStop}
 use Rattle.warc_journal.specs.Extents.{cdxj_files, warc_files}
 use Rattle.warc_journal.specs.Journals.{disk_of}
 use Rattle.warc_text.specs.Sound.{IsSound}
@@ -212,53 +212,56 @@ module _ {D G L P N M C O : Type 0} (kinds : Kinds D G L P N M C O) where
   damage_is_untold : (told : Bool) (kept : List ℕ) (found : Option (List ℕ)) → IsTrue told → IsDamaged told kept found → ⊥
   damage_is_untold told kept found tells damaged = true≢false (sym tells ∙ damaged.untold)
 
-  read_answered : (known : Option Book) (namespace : List ℕ) (was is : Objects D G (List (N × C)) O) (status : Status) (taken : HasTakenIn kinds known namespace was is status)
-      → IsTrue (told_at Checkpoints kinds.disks.tells known)
-      → NoFaults kinds was is → (file : List ℕ) → taken.imported.input ≡ Ok file → (refused : Option StoreFault) → taken.imported.intake.refused ≡ refused
-      → IsTellable refused → (text : List ℕ) → Prints kinds.sinks (status_after refused) text was.out is.out status
-      → (status ≡ Done) ⊎ (status ≡ Memory) ⊎ ImportsBadly kinds known namespace was is status
-  read_answered known namespace was is status taken told steady file whole None none tellable text printed =
-      one_more (printed_or_lacked kinds.sinks Done text was.out is.out status steady.out (inl printed))
-  read_answered known namespace was is status taken told steady file whole (Some (stores.Full count limit)) full tellable text printed =
-      inr (inr (record { taken = taken; badly = subst (λ i. IsNotTaken i taken.imported.intake.refused) (sym whole) (inr (subst IsFullBefore (sym full) tt)) }))
-  read_answered known namespace was is status taken told steady file whole (Some stores.DiskFault) fault tellable text printed =
-      absurd (not_risen (kinds.disks.faults was.disk) (kinds.disks.faults is.disk) steady.disk
-      (subst (λ r. CountsIf (is_denied r) (kinds.disks.faults was.disk) (kinds.disks.faults is.disk)) fault taken.imported.keeps.faults).1)
-  read_answered known namespace was is status taken told steady file whole (Some (stores.Damaged number kept found)) fault tellable text printed =
-      absurd (undamaged (subst (λ r. EndsBy true r k.rest k.reached taken.imported.after) fault k.ends))
-    where
-      k : Keeps true taken.imported.intake (told_on kinds.disks was.disk (contents_of taken.imported.before)) (told_on kinds.disks is.disk taken.imported.after)
-      k = taken.imported.keeps
+  module _ (known : Option Book) (namespace : List ℕ) (was is : Objects D G (List (N × C)) O) (status : Status)
+      (imported : Imports kinds.disks kinds.gates kinds.sinks kinds.clients_tell known (Some namespace) (objects_of was.disk was.gate tt was.out) (objects_of is.disk is.gate tt is.out) status)
+      (untouched : is.crew ≡ was.crew) where
+    not_taken : IsNotTaken imported.input imported.intake.refused → (status ≡ Done) ⊎ (status ≡ Memory) ⊎ ImportsBadly kinds known namespace was is status
+    not_taken badly = inr (inr (record { imported = imported; untouched = untouched; badly = badly }))
 
-      undamaged : EndsBy true (Some (stores.Damaged number kept found)) k.rest k.reached taken.imported.after → ⊥
-      undamaged ends =
-          damage_is_untold k.reached.tells kept found
-          (subst IsTrue (sym taken.imported.opened.is.told_is ∙ sym k.goes_on.same_tells ∙ stored_tells true ends.0 k.reached taken.imported.after (Err (stores.Damaged number kept found)) ends.3) told)
-          ends.3.3
-  read_answered known namespace was is status taken told steady file whole (Some stores.Memory) fault tellable text printed = absurd tellable
+    read_answered : IsTrue (told_at Checkpoints kinds.disks.tells known)
+        → NoFaults kinds was is → (file : List ℕ) → imported.input ≡ Ok file → (refused : Option StoreFault) → imported.intake.refused ≡ refused
+        → IsTellable refused → (text : List ℕ) → Prints kinds.sinks (status_after refused) text was.out is.out status
+        → (status ≡ Done) ⊎ (status ≡ Memory) ⊎ ImportsBadly kinds known namespace was is status
+    read_answered told steady file whole None none tellable text printed =
+        one_more (printed_or_lacked kinds.sinks Done text was.out is.out status steady.out (inl printed))
+    read_answered told steady file whole (Some (stores.Full count limit)) full tellable text printed =
+        not_taken (subst (λ i. IsNotTaken i imported.intake.refused) (sym whole) (inr (subst IsFullBefore (sym full) tt)))
+    read_answered told steady file whole (Some stores.DiskFault) fault tellable text printed =
+        absurd (not_risen (kinds.disks.faults was.disk) (kinds.disks.faults is.disk) steady.disk
+        (subst (λ r. CountsIf (is_denied r) (kinds.disks.faults was.disk) (kinds.disks.faults is.disk)) fault imported.keeps.faults).1)
+    read_answered told steady file whole (Some (stores.Damaged number kept found)) fault tellable text printed =
+        absurd (undamaged (subst (λ r. EndsBy true r k.rest k.reached imported.after) fault k.ends))
+      where
+        k : Keeps true imported.intake (told_on kinds.disks was.disk (contents_of imported.before)) (told_on kinds.disks is.disk imported.after)
+        k = imported.keeps
 
-  taken_answered : (known : Option Book) (namespace : List ℕ) (was is : Objects D G (List (N × C)) O) (status : Status) (taken : HasTakenIn kinds known namespace was is status)
-      → IsTrue (told_at Checkpoints kinds.disks.tells known)
-      → NoFaults kinds was is → (input : Result (List ℕ) InputFault) → taken.imported.input ≡ input
-      → Tells kinds.sinks taken.imported.intake (printed_as was.out is.out status) input
-      → (status ≡ Done) ⊎ (status ≡ Memory) ⊎ ImportsBadly kinds known namespace was is status
-  taken_answered known namespace was is status taken told steady (Ok file) whole (inl read) =
-      read_answered known namespace was is status taken told steady file whole taken.imported.intake.refused refl read.tellable _ read.told
-  taken_answered known namespace was is status taken told steady (Ok file) whole (inr (inl none)) =
-      inr (inr (record { taken = taken; badly = subst (λ i. IsNotTaken i taken.imported.intake.refused) (sym whole) (inl (none.at, none.none)) }))
-  taken_answered known namespace was is status taken told steady (Ok file) whole (inr (inr breaks)) = inr (inl breaks.lacks.status_is)
-  taken_answered known namespace was is status taken told steady (Err input_fault.TooLong) same tells =
-      inr (inr (record { taken = taken; badly = subst (λ i. IsNotTaken i taken.imported.intake.refused) (sym same) tt }))
-  taken_answered known namespace was is status taken told steady (Err input_fault.Failed) same tells =
-      inr (inr (record { taken = taken; badly = subst (λ i. IsNotTaken i taken.imported.intake.refused) (sym same) tt }))
-  taken_answered known namespace was is status taken told steady (Err input_fault.Memory) same tells = inr (inl tells.1.status_is)
+        undamaged : EndsBy true (Some (stores.Damaged number kept found)) k.rest k.reached imported.after → ⊥
+        undamaged ends =
+            damage_is_untold k.reached.tells kept found
+            (subst IsTrue (sym imported.opened.is.told_is ∙ sym k.goes_on.same_tells ∙ stored_tells true ends.0 k.reached imported.after (Err (stores.Damaged number kept found)) ends.3) told)
+            ends.3.3
+    read_answered told steady file whole (Some stores.Memory) fault tellable text printed = absurd tellable
+
+    taken_answered : IsTrue (told_at Checkpoints kinds.disks.tells known)
+        → NoFaults kinds was is → (input : Result (List ℕ) InputFault) → imported.input ≡ input
+        → Tells kinds.sinks imported.intake (printed_as was.out is.out status) input
+        → (status ≡ Done) ⊎ (status ≡ Memory) ⊎ ImportsBadly kinds known namespace was is status
+    taken_answered told steady (Ok file) whole (inl read) =
+        read_answered told steady file whole imported.intake.refused refl read.tellable _ read.told
+    taken_answered told steady (Ok file) whole (inr (inl none)) =
+        not_taken (subst (λ i. IsNotTaken i imported.intake.refused) (sym whole) (inl (none.at, none.none)))
+    taken_answered told steady (Ok file) whole (inr (inr breaks)) = inr (inl breaks.lacks.status_is)
+    taken_answered told steady (Err input_fault.TooLong) same tells = not_taken (subst (λ i. IsNotTaken i imported.intake.refused) (sym same) tt)
+    taken_answered told steady (Err input_fault.Failed) same tells = not_taken (subst (λ i. IsNotTaken i imported.intake.refused) (sym same) tt)
+    taken_answered told steady (Err input_fault.Memory) same tells = inr (inl tells.1.status_is)
 
   import_answered : (known : Option Book) (namespace : List ℕ) (was is : Objects D G (List (N × C)) O) (status : Status)
       → IsTrue (told_at Checkpoints kinds.disks.tells known) → NoFaults kinds was is
-      → HasTakenIn kinds known namespace was is status ⊎ Refuses kinds (by_checkpoints was.disk (Some namespace) known) was is status
+      → (Imports kinds.disks kinds.gates kinds.sinks kinds.clients_tell known (Some namespace) (objects_of was.disk was.gate tt was.out) (objects_of is.disk is.gate tt is.out) status × (is.crew ≡ was.crew))
+      ⊎ Refuses kinds (by_checkpoints was.disk (Some namespace) known) was is status
       → (status ≡ Done) ⊎ (status ≡ Memory) ⊎ ImportsBadly kinds known namespace was is status
-  import_answered known namespace was is status told steady (inl taken) =
-      taken_answered known namespace was is status taken told steady taken.imported.input refl taken.imported.told
+  import_answered known namespace was is status told steady (inl (imported, untouched)) =
+      taken_answered known namespace was is status imported untouched told steady imported.input refl imported.told
   import_answered known namespace was is status told steady (inr refuses) =
       inr (inl (refused_known known (Some namespace) was is status told steady refuses))
 
@@ -267,55 +270,55 @@ module _ {D G L P N M C O : Type 0} (kinds : Kinds D G L P N M C O) where
 
   -- ---- `follow`
 
-  told_then : (known : Option Book) (namespace : List ℕ) (site : Site) (was is : Objects D G (List (N × C)) O) (status : Status) (taken : HasReplicated kinds known namespace site was is status)
-      → IsTrue (told_at Checkpoints kinds.disks.tells known)
-      → (number at : ℕ) (kept : List ℕ) (found : Option (List ℕ))
-      → FollowEnds kinds.disks (source_of site) kinds.origins_tell (Err (Piece number (pieces.Damaged at kept found))) taken.follows.follows.followed.refused
-      taken.follows.follows.followed.reached taken.follows.follows.followed.links taken.follows.after (kinds.dialers.links taken.first.after.0) → ⊥
-  told_then known namespace site was is status taken told number at kept found ends =
-      let f = taken.follows.follows.followed in
-      damage_is_untold f.reached.told kept found
-      (sym (ap (λ (h : Holdings D). h.told) ends.2.leaves.1.others) ∙ f.goes_on.same_told ∙ taken.follows.opened.is.told_is ∙ told) ends.2.leaves.3
+  module _ (known : Option Book) (namespace : List ℕ) (site : Site) (was is : Objects D G (List (N × C)) O) (status : Status) (first : UsesFirst was.crew is.crew)
+      (follows : Follows kinds.disks kinds.dialers kinds.sinks kinds.origins_tell known (Some namespace) site (objects_of was.disk tt first.before was.out) (objects_of is.disk tt first.after is.out) status)
+      (untouched : is.gate ≡ was.gate) where
+    not_followed : IsNotFollowed follows.follows.result → (status ≡ Done) ⊎ (status ≡ Memory) ⊎ FollowsBadly kinds known namespace site was is status
+    not_followed badly = inr (inr (record { first = first; follows = follows; untouched = untouched; badly = badly }))
 
-  ended_answered : (known : Option Book) (namespace : List ℕ) (site : Site) (was is : Objects D G (List (N × C)) O) (status : Status) (taken : HasReplicated kinds known namespace site was is status)
-      → IsTrue (told_at Checkpoints kinds.disks.tells known) → NoFaults kinds was is → (result : Result ⊤ Stop) → taken.follows.follows.result ≡ result
-      → MatchResult result
-      (λ done. Prints kinds.sinks Done (numbered (codes "captures ") (length (captures taken.follows.after.book))) was.out is.out status ⊎ LacksMemory kinds.sinks was.out is.out status)
-      (λ stop. TellsStop kinds.sinks stop was.out is.out status)
-      → FollowEnds kinds.disks (source_of site) kinds.origins_tell result taken.follows.follows.followed.refused
-      taken.follows.follows.followed.reached taken.follows.follows.followed.links taken.follows.after (kinds.dialers.links taken.first.after.0)
-      → CountsIf (is_disk_stop result) (kinds.disks.faults was.disk) (kinds.disks.faults is.disk)
-      → (status ≡ Done) ⊎ (status ≡ Memory) ⊎ FollowsBadly kinds known namespace site was is status
-  ended_answered known namespace site was is status taken told steady (Ok done) same tells ends counts =
-      one_more (printed_or_lacked kinds.sinks Done _ was.out is.out status steady.out tells)
-  ended_answered known namespace site was is status taken told steady (Err (Source number sources.DialFault)) same tells ends counts =
-      inr (inr (record { taken = taken; badly = subst IsNotFollowed (sym same) tt }))
-  ended_answered known namespace site was is status taken told steady (Err (Source number sources.OriginFault)) same tells ends counts =
-      inr (inr (record { taken = taken; badly = subst IsNotFollowed (sym same) tt }))
-  ended_answered known namespace site was is status taken told steady (Err (Source number sources.Malformed)) same tells ends counts =
-      inr (inr (record { taken = taken; badly = subst IsNotFollowed (sym same) tt }))
-  ended_answered known namespace site was is status taken told steady (Err (Source number sources.TooLong)) same tells ends counts =
-      inr (inr (record { taken = taken; badly = subst IsNotFollowed (sym same) tt }))
-  ended_answered known namespace site was is status taken told steady (Err (Source number (sources.Refused code))) same tells ends counts =
-      inr (inr (record { taken = taken; badly = subst IsNotFollowed (sym same) tt }))
-  ended_answered known namespace site was is status taken told steady (Err (Source number sources.Memory)) same lacked ends counts = inr (inl lacked.status_is)
-  ended_answered known namespace site was is status taken told steady (Err (Piece number (pieces.Full count limit))) same tells ends counts =
-      inr (inr (record { taken = taken; badly = subst IsNotFollowed (sym same) tt }))
-  ended_answered known namespace site was is status taken told steady (Err (Piece number pieces.NotAPiece)) same tells ends counts =
-      inr (inr (record { taken = taken; badly = subst IsNotFollowed (sym same) tt }))
-  ended_answered known namespace site was is status taken told steady (Err (Piece number pieces.DiskFault)) same tells ends counts =
-      absurd (not_risen (kinds.disks.faults was.disk) (kinds.disks.faults is.disk) steady.disk counts.1)
-  ended_answered known namespace site was is status taken told steady (Err (Piece number (pieces.Damaged at kept found))) same tells ends counts =
-      absurd (told_then known namespace site was is status taken told number at kept found ends)
-  ended_answered known namespace site was is status taken told steady (Err (Piece number pieces.Memory)) same lacked ends counts = inr (inl lacked.status_is)
+    told_then : IsTrue (told_at Checkpoints kinds.disks.tells known)
+        → (number at : ℕ) (kept : List ℕ) (found : Option (List ℕ))
+        → FollowEnds kinds.disks (source_of site) kinds.origins_tell (Err (Piece number (pieces.Damaged at kept found))) follows.follows.followed.refused
+        follows.follows.followed.reached follows.follows.followed.links follows.after (kinds.dialers.links first.after.0) → ⊥
+    told_then told number at kept found ends =
+        let f = follows.follows.followed in
+        damage_is_untold f.reached.told kept found
+        (sym (ap (λ (h : Holdings D). h.told) ends.2.leaves.1.others) ∙ f.goes_on.same_told ∙ follows.opened.is.told_is ∙ told) ends.2.leaves.3
+
+    ended_answered : IsTrue (told_at Checkpoints kinds.disks.tells known) → NoFaults kinds was is → (result : Result ⊤ Stop) → follows.follows.result ≡ result
+        → MatchResult result
+        (λ done. Prints kinds.sinks Done (captures_line (length (captures follows.after.book))) was.out is.out status ⊎ LacksMemory kinds.sinks was.out is.out status)
+        (λ stop. TellsStop kinds.sinks stop was.out is.out status)
+        → FollowEnds kinds.disks (source_of site) kinds.origins_tell result follows.follows.followed.refused
+        follows.follows.followed.reached follows.follows.followed.links follows.after (kinds.dialers.links first.after.0)
+        → CountsIf (is_disk_stop result) (kinds.disks.faults was.disk) (kinds.disks.faults is.disk)
+        → (status ≡ Done) ⊎ (status ≡ Memory) ⊎ FollowsBadly kinds known namespace site was is status
+    ended_answered told steady (Ok done) same tells ends counts =
+        one_more (printed_or_lacked kinds.sinks Done _ was.out is.out status steady.out tells)
+    ended_answered told steady (Err (Source number sources.DialFault)) same tells ends counts = not_followed (subst IsNotFollowed (sym same) tt)
+    ended_answered told steady (Err (Source number sources.OriginFault)) same tells ends counts = not_followed (subst IsNotFollowed (sym same) tt)
+    ended_answered told steady (Err (Source number sources.Malformed)) same tells ends counts = not_followed (subst IsNotFollowed (sym same) tt)
+    ended_answered told steady (Err (Source number sources.TooLong)) same tells ends counts = not_followed (subst IsNotFollowed (sym same) tt)
+    ended_answered told steady (Err (Source number (sources.Refused code))) same tells ends counts = not_followed (subst IsNotFollowed (sym same) tt)
+    ended_answered told steady (Err (Source number sources.Memory)) same lacked ends counts = inr (inl lacked.status_is)
+    ended_answered told steady (Err (Piece number (pieces.Full count limit))) same tells ends counts = not_followed (subst IsNotFollowed (sym same) tt)
+    ended_answered told steady (Err (Piece number pieces.NotAPiece)) same tells ends counts = not_followed (subst IsNotFollowed (sym same) tt)
+    ended_answered told steady (Err (Piece number pieces.DiskFault)) same tells ends counts =
+        absurd (not_risen (kinds.disks.faults was.disk) (kinds.disks.faults is.disk) steady.disk counts.1)
+    ended_answered told steady (Err (Piece number (pieces.Damaged at kept found))) same tells ends counts =
+        absurd (told_then told number at kept found ends)
+    ended_answered told steady (Err (Piece number pieces.Memory)) same lacked ends counts = inr (inl lacked.status_is)
 
   follow_answered : (known : Option Book) (namespace : List ℕ) (site : Site) (was is : Objects D G (List (N × C)) O) (status : Status)
       → IsTrue (told_at Checkpoints kinds.disks.tells known) → NoFaults kinds was is
-      → HasReplicated kinds known namespace site was is status ⊎ Refuses kinds (by_checkpoints was.disk (Some namespace) known) was is status ⊎ ((status ≡ Memory) × (is ≡ was))
+      → ((first : UsesFirst was.crew is.crew)
+      × Follows kinds.disks kinds.dialers kinds.sinks kinds.origins_tell known (Some namespace) site (objects_of was.disk tt first.before was.out) (objects_of is.disk tt first.after is.out) status
+      × (is.gate ≡ was.gate))
+      ⊎ Refuses kinds (by_checkpoints was.disk (Some namespace) known) was is status ⊎ ((status ≡ Memory) × (is ≡ was))
       → (status ≡ Done) ⊎ (status ≡ Memory) ⊎ FollowsBadly kinds known namespace site was is status
-  follow_answered known namespace site was is status told steady (inl taken) =
-      ended_answered known namespace site was is status taken told steady taken.follows.follows.result refl taken.follows.follows.told taken.follows.follows.followed.ends
-      taken.follows.disk_faults
+  follow_answered known namespace site was is status told steady (inl (first, follows, untouched)) =
+      ended_answered known namespace site was is status first follows untouched told steady follows.follows.result refl follows.follows.told follows.follows.followed.ends
+      follows.disk_faults
   follow_answered known namespace site was is status told steady (inr (inl refuses)) =
       inr (inl (refused_known known (Some namespace) was is status told steady refuses))
   follow_answered known namespace site was is status told steady (inr (inr lacks)) = inr (inl lacks.0)
@@ -324,8 +327,7 @@ module _ {D G L P N M C O : Type 0} (kinds : Kinds D G L P N M C O) where
   follows_answered known namespace site was is status told steady runs = follow_answered known namespace site was is status told steady runs
 
   pub follows_leave_ready : FollowsLeaveReady kinds
-  follows_leave_ready known namespace site was is status taken told ids image now =
-      let f = taken.follows in
+  follows_leave_ready known namespace site was is status f told ids image now =
       let so : IsTrue f.before.told = f.opened.is.told_is ∙ told in
       let x = f.near so image now in
       let grows = f.follows.followed.goes_on.grows in
@@ -333,8 +335,7 @@ module _ {D G L P N M C O : Type 0} (kinds : Kinds D G L P N M C O) where
       (sound_still f.before.book f.after.book grows (f.opened.is.whole so).sound) ids x.2 x.1 (f.right so image now)
 
   pub imports_leave_ready : ImportsLeaveReady kinds
-  imports_leave_ready known namespace was is status taken told ids image now =
-      let i = taken.imported in
+  imports_leave_ready known namespace was is status i told ids image now =
       let so : IsTrue i.before.told = i.opened.is.told_is ∙ told in
       let g = i.keeps.goes_on in
       let x = i.near so image now in

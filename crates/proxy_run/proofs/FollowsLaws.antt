@@ -1,6 +1,6 @@
 -- What the command `follow` leaves.
 use Rattle.std.proofs.Common.{◌≡◌, ◌⊎◌, ℕ, Bool, IsTrue, List, [], ◌∷◌, length, Option, Err, refl, sym, subst, ◌∙◌, inl, inr, ⊎_elim, arith}
-use Rattle.std.specs.Prelude.{⊤}
+use Rattle.std.specs.Prelude.{◌++◌, ⊤, decimal}
 use Rattle.archive_core.specs.Holdings.{Holdings}
 use Rattle.archive_core.proofs.FinishedLaws.{checkpoints_later, same_checkpoints_of}
 use Rattle.command.specs.Settling.{IsOf}
@@ -24,7 +24,7 @@ use Rattle.command.proofs.OpeningLaws.{ids_differ, only_one}
 use Rattle.replica.proofs.FollowLaws.{at_last, ended_unasked}
 use Rattle.replica.specs.Following.{IsOfRefused, IsOnWay, OpensBehind, Step, is_disk_stop}
 use Rattle.proxy_run.specs.Follows.{Follows, FollowsTo}
-use Rattle.proxy_run.specs.StopTexts.{numbered}
+use Rattle.httparse.specs.Ascii.{line_feed}
 use Rattle.command.specs.Objects.{Objects}
 use Rattle.command.specs.Opening.{IsOpened}
 use Rattle.command.specs.Printing.{LacksMemory, Prints, printed_as}
@@ -47,10 +47,10 @@ unasked disks dialers sinks tells source now dialer out = record {
 
 -- a text that tells a number
 pub told_number : {O : Type 0} (sinks : Sinks O) (said : Status) (words : List ℕ) (n m : ℕ) (was is : O) (result : Status) → n ≡ m
-    → Prints sinks said (numbered words n) was is result ⊎ LacksMemory sinks was is result
-    → Prints sinks said (numbered words m) was is result ⊎ LacksMemory sinks was is result
+    → Prints sinks said (words ++ decimal n ++ (line_feed ∷ [])) was is result ⊎ LacksMemory sinks was is result
+    → Prints sinks said (words ++ decimal m ++ (line_feed ∷ [])) was is result ⊎ LacksMemory sinks was is result
 told_number sinks said words n m was is result same told =
-    subst (λ (k : ℕ). Prints sinks said (numbered words k) was is result ⊎ LacksMemory sinks was is result) same told
+    subst (λ (k : ℕ). Prints sinks said (words ++ decimal k ++ (line_feed ∷ [])) was is result ⊎ LacksMemory sinks was is result) same told
 
 behind_so : {D : Type 0} (steps : List (Step D)) (reached : Book) (Before Now : Book → Type 0) (x : Book) → (Before x → Now x)
     → OpensBehind steps reached Before x → OpensBehind steps reached Now x

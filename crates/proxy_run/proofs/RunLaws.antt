@@ -103,7 +103,7 @@ module _ {D G L P N M C O : Type 0} (kinds : Kinds D G L P N M C O) (known : Opt
       → Imports kinds.disks kinds.gates kinds.sinks kinds.clients_tell known (Some namespace) (objects_of was.disk was.gate tt was.out) (objects_of disk gate tt out) status
       ⊎ (IsNotOpened kinds.disks kinds.sinks (by_checkpoints was.disk (Some namespace) known) disk (printed_as was.out out status) × (gate ≡ was.gate))
       → Runs kinds known (Some (Import namespace)) site was (record was { disk = disk; gate = gate; out = out }) status
-  taken_in namespace was disk gate out status (inl imports) = inl (record { imported = imports; untouched = refl })
+  taken_in namespace was disk gate out status (inl imports) = inl (imports, refl)
   taken_in namespace was disk gate out status (inr (refused, same)) =
       inr (record { refused = refused; untouched = ap (λ (g : G). record was { disk = disk; gate = g; out = out }) same })
 
@@ -123,11 +123,8 @@ module _ {D G L P N M C O : Type 0} (kinds : Kinds D G L P N M C O) (known : Opt
       → Follows kinds.disks kinds.dialers kinds.sinks kinds.origins_tell known (Some namespace) base (objects_of was.disk tt before was.out) (objects_of is.disk tt after is.out) status
       ⊎ (IsNotOpened kinds.disks kinds.sinks (by_checkpoints was.disk (Some namespace) known) is.disk (printed_as was.out is.out status) × (after ≡ before))
       → Runs kinds known (Some (Follow namespace)) (Some base) was is status
-  replicated namespace base was is status before after others were are gate (inl follows) = inl (record {
-    first = record { before = before; after = after; others = others; were = were; are = are };
-    follows = follows;
-    untouched = gate;
-  })
+  replicated namespace base was is status before after others were are gate (inl follows) =
+      inl (record { before = before; after = after; others = others; were = were; are = are }, follows, gate)
   replicated namespace base was is status before after others were are gate (inr (refused, same)) =
       inr (inl (refuses_all (by_checkpoints was.disk (Some namespace) known) was is status before after others were are (record {
         refused = refused;

@@ -1,5 +1,5 @@
 -- The verdicts on volumes whose counts the bytes bear out are one.
-use Rattle.std.proofs.Common.{◌≡◌, ℕ, suc, ◌<◌, nat_eq, List, [], ◌∷◌, length, drop, All, refl, sym, ap, subst, ◌∙◌, arith}
+use Rattle.std.proofs.Common.{◌≡◌, ℕ, suc, ◌<◌, nat_eq, List, [], ◌∷◌, length, map, drop, All, refl, sym, ap, subst, ◌∙◌, arith}
 use Rattle.std.specs.Prelude.{slice_get}
 use Rattle.std.proofs.lemmas.List.Elements.{All-head, All-tail}
 use Rattle.std.proofs.lemmas.Option.{same_Some}
@@ -12,10 +12,11 @@ use Rattle.fixity.proofs.OneVerdict.{one_verdict}
 use Rattle.fixity.specs.Verdicts.{volume_of}
 use Rattle.proxy_run.proofs.SoundVolumes.{facts_long}
 use Rattle.proxy_run.specs.Verified.{VolumesVerifyOneWay}
-use Rattle.proxy_run.specs.Verifies.{Checked, IsRight, facts_in}
+use Rattle.proxy_run.specs.Verifies.{Checked, IsRight}
 
 -- of the same volumes
-same_verdicts : (namespace : List ℕ) (count : ℕ) (image : Image) (xs ys : List Checked) → facts_in xs ≡ facts_in ys
+same_verdicts : (namespace : List ℕ) (count : ℕ) (image : Image) (xs ys : List Checked)
+    → map (λ (c : Checked). c.facts) xs ≡ map (λ (c : Checked). c.facts) ys
     → All (IsRight namespace count image) xs → All (IsRight namespace count image) ys → xs ≡ ys
 same_verdicts namespace count image [] [] same a b = refl
 same_verdicts namespace count image [] (y ∷ ys) same a b = absurd (omega (arith, ap length same))

@@ -1,7 +1,10 @@
 -- What a server promises, from what it leaves.
-use Rattle.std.proofs.Common.{◌-◌, ◌≡◌, ◌⊎◌, ℕ, suc, ◌+◌, ◌≤◌, Bool, true, false, IsTrue, IsPermutation, List, [], ◌∷◌, ◌++◌, drop, length, Option, Some, Result, Ok, Err, refl, sym, ap, ◌∙◌, subst, inl, inr, ⊎_elim, arith, append_assoc}
+use Rattle.std.proofs.Common.{◌-◌, ◌≡◌, ◌≢◌, ◌⊎◌, ℕ, suc, ◌+◌, ◌≤◌, Bool, true, false, IsTrue, IsPermutation, List, [], ◌∷◌, ◌++◌, drop, length, Option, Some, Result, Ok, Err, refl, sym, ap, ◌∙◌, subst, inl, inr, ⊎_elim, arith, append_assoc}
 use Rattle.std.specs.Prelude.{IfSome, slice_get}
-use Rattle.std.specs.List.{flat_map, range_with_len, sum_by}
+use Rattle.std.specs.List.{All, flat_map, range_with_len, sum_by}
+use Rattle.std.proofs.lemmas.List.Elements.{All-head, All-tail}
+use Rattle.std.proofs.lemmas.List.FromFn.{length-range_with_len}
+use Rattle.std.proofs.lemmas.List.Sorted.{length_permutation}
 use Rattle.std.proofs.lemmas.List.Sums.{sum_by-cons}
 use Rattle.std.proofs.lemmas.List.{append-nil, length-append}
 use Rattle.std.proofs.lemmas.Option.{same_Some}
@@ -21,10 +24,11 @@ use Rattle.disk_model.specs.Crash.{Leaves}
 use Rattle.disk_model.specs.Image.{Image}
 use Rattle.disk_model.specs.declared.disk.Disk.{Ghosts as Disks}
 use Rattle.capture.specs.Captures.{captures}
-use Rattle.capture.proofs.GrowthLaws.{growth_goes_on}
+use Rattle.capture.proofs.GrowthLaws.{growth_goes_on, growth_keeps_captures}
 use Rattle.capture.specs.Faults.{Rose, RoseBy}
 use Rattle.capture.specs.Growth.{Grows}
 use Rattle.capture.specs.declared.book.Book.{Book}
+use Rattle.capture.specs.declared.captured.Stored.{Stored}
 use Rattle.capture.specs.declared.site.Site.{Site}
 use Rattle.capture.specs.First.{Requests, NothingBegun, IsFirst}
 use Rattle.link_queue.specs.Serving.{all_of}
@@ -43,8 +47,9 @@ use Rattle.proxy_run.proofs.NextLaws.{all_next, settled_next, sound_still, stand
 use Rattle.proxy_run.specs.Complete.{IsSteady, NoFaults}
 use Rattle.proxy_run.specs.Pipes.{Refuses}
 use Rattle.proxy_run.proofs.StatusLaws.{memory_told, said_by, settled_well}
+use Rattle.proxy_run.proofs.VaultSeats.{IsNewcomer}
 use Rattle.proxy_run.specs.Promises.{AllAreHungUp, AllAreReadOut, AreReadOut, BooksLeadOn, BooksOnlyGrow, CapturesAreStoredOnce, FaultsAreCounted, GatesAreEmptied, IsHeardOut, IsReadOut, LeadTo, LeadsTo, LogsAreInOrder, ServersAreAnswered, ServersCapturesComeBack, ServersLeaveReady, ServersLeaveSettled, ServersLeaveTheLast, ServersWithoutShelvesComeBack, ServersWithoutShelvesLeaveReady, numbers_of, rounds_in, rounds_of}
-use Rattle.proxy_run.specs.Serves.{AreNewcomers, LacksShelves, Seat, Serves, all_mine, told_by, worst}
+use Rattle.proxy_run.specs.Serves.{LacksShelves, Seat, Serves, told_by}
 use Rattle.command.specs.Gates.{unheard}
 use Rattle.crew.specs.Shifts.{AreShifts, Hand, IsShift, hand_of, hands_of}
 use Rattle.command.specs.Texts.{captures_line}
@@ -70,19 +75,12 @@ stands_last image x was now (inr (none, none₂)) grows sound stands =
 
 -- ---- the status
 
-worst_done : (said printed : Status) → worst said printed ≡ Done → printed ≡ Done
-worst_done Done printed done = done
-worst_done Words printed done = done
-worst_done Archive printed done = done
-worst_done Outside printed done = done
-worst_done Memory printed done = cc done
-
-worst_memory : (said printed status : Status) → status ≡ worst said printed → said ≡ Memory → status ≡ Memory
-worst_memory Done printed status is memory = cc memory
-worst_memory Words printed status is memory = cc memory
-worst_memory Archive printed status is memory = cc memory
-worst_memory Outside printed status is memory = cc memory
-worst_memory Memory printed status is memory = is
+printed_done : (said printed status : Status) → (said ≡ Memory → status ≡ Memory) → (said ≢ Memory → status ≡ printed) → status ≡ Done → printed ≡ Done
+printed_done Done printed status lacking is done = sym (is (λ memory. cc memory)) ∙ done
+printed_done Words printed status lacking is done = sym (is (λ memory. cc memory)) ∙ done
+printed_done Archive printed status lacking is done = sym (is (λ memory. cc memory)) ∙ done
+printed_done Outside printed status lacking is done = sym (is (λ memory. cc memory)) ∙ done
+printed_done Memory printed status lacking is done = let memory = lacking refl in cc (memory, done)
 
 all_printed : {O : Type 0} (sinks : Sinks O) (count : ℕ) (said printed : Status) (was is : O) → Prints sinks said (captures_line count) was is printed ⊎ LacksMemory sinks was is printed
     → printed ≡ Done → IsTrue sinks.tells → sinks.written is ≡ sinks.written was ++ captures_line count
@@ -91,13 +89,32 @@ all_printed sinks count said printed was is (inl (inr broke)) done tells = cc (d
 all_printed sinks count said printed was is (inr lacks) done tells = cc (done, lacks.status_is)
 
 -- nobody who accepted failed, and what was printed was printed whole
-counted_well : (closed : Bool) (before now : ℕ) (said printed : Status) → IsSteady before now → IsEnd closed before now said → (printed ≡ said) ⊎ (printed ≡ Memory)
-    → (worst said printed ≡ Done) ⊎ (worst said printed ≡ Memory)
-counted_well closed before now Done printed steady end tells = tells
-counted_well closed before now Words printed steady end tells = absurd end
-counted_well closed before now Archive printed steady end tells = absurd end
-counted_well closed before now Outside printed steady end tells = absurd (not_risen before now steady end)
-counted_well closed before now Memory printed steady end tells = inr refl
+counted_well : (closed : Bool) (before now : ℕ) (said printed status : Status) → IsSteady before now → IsEnd closed before now said → (printed ≡ said) ⊎ (printed ≡ Memory)
+    → (said ≡ Memory → status ≡ Memory) → (said ≢ Memory → status ≡ printed) → (status ≡ Done) ⊎ (status ≡ Memory)
+counted_well closed before now Done printed status steady end tells lacking is =
+    subst (λ (s : Status). (s ≡ Done) ⊎ (s ≡ Memory)) (sym (is (λ memory. cc memory))) tells
+counted_well closed before now Words printed status steady end tells lacking is = absurd end
+counted_well closed before now Archive printed status steady end tells lacking is = absurd end
+counted_well closed before now Outside printed status steady end tells lacking is = absurd (not_risen before now steady end)
+counted_well closed before now Memory printed status steady end tells lacking is = inr (lacking refl)
+
+-- ---- what was stored
+
+-- the numbers of just those captures that a book has behind the ones of another, in whatever order, are as many as these
+stored_once : (before after : Book) (mine numbers : List ℕ) → Grows before after
+    → IsPermutation mine (range_with_len (length (captures before)) (length (captures after) - length (captures before))) → numbers ≡ mine
+    → IsPermutation numbers (range_with_len (length (captures before)) (length numbers)) × (length (captures after) ≡ length (captures before) + length numbers)
+stored_once before after mine numbers grows once same =
+    let kept = growth_keeps_captures before after grows in
+    let more : length (captures after) ≡ length (captures before) + length kept.0 =
+    ap (λ (l : List Stored). length l) kept.1 ∙ length-append (captures before) kept.0 in
+    let many : length (captures after) - length (captures before) ≡ length numbers =
+    sym (length-range_with_len (length (captures before)) (length (captures after) - length (captures before)))
+    ∙ (length_permutation mine (range_with_len (length (captures before)) (length (captures after) - length (captures before))) once
+    ∙ ap (λ (l : List ℕ). length l) (sym same)) in (
+      subst (λ (z : List ℕ × ℕ). IsPermutation z.0 (range_with_len (length (captures before)) z.1)) (λ i. (sym same i, many i)) once,
+      omega (arith, more, many),
+    )
 
 -- ---- what a settling leaves
 
@@ -263,24 +280,25 @@ module _ {N M C : Type 0} (dialers : Dialers N M) (clocks : Clocks C) (setting :
   as_many_hands (seat ∷ seats) (member ∷ crew) few = ap (λ n. suc n) (as_many_hands seats crew (omega (arith, few)))
 
   mine_of_hands : (seats : List Seat) (crew : List (N × C)) → length seats ≤ length crew
-      → flat_map (λ h. drop 1 (told_by h.shelf).contents.mine) (hands_of dialers clocks seats crew) ≡ all_mine seats
+      → flat_map (λ h. drop 1 (told_by h.shelf).contents.mine) (hands_of dialers clocks seats crew) ≡ flat_map (λ (seat : Seat). seat.contents.mine) seats
   mine_of_hands [] crew few = refl
   mine_of_hands (seat ∷ seats) [] few = absurd (omega (arith, few))
   mine_of_hands (seat ∷ seats) (member ∷ crew) few = ap (λ ns. seat.contents.mine ++ ns) (mine_of_hands seats crew (omega (arith, few)))
 
-  none_stored : (now : Contents) → now.mine ≡ [] → (seats : List Seat) (crew : List (N × C)) → AreNewcomers now seats
+  none_stored : (now : Contents) → now.mine ≡ [] → (seats : List Seat) (crew : List (N × C)) → All (IsNewcomer now) seats
       → HaveNone false told_by setting (hands_of dialers clocks seats crew)
   none_stored now none [] crew new = tt
   none_stored now none (seat ∷ seats) [] new = tt
   none_stored now none (seat ∷ seats) (member ∷ crew) new = (
-    (seat.number, ap (λ (c : Contents). seat.number ∷ c.mine) new.0 ∙ ap (λ (ns : List ℕ). seat.number ∷ ns) none),
-    none_stored now none seats crew new.3,
+    (seat.number, ap (λ (c : Contents). seat.number ∷ c.mine) (All-head (IsNewcomer now) seat seats new).0 ∙ ap (λ (ns : List ℕ). seat.number ∷ ns) none),
+    none_stored now none seats crew (All-tail (IsNewcomer now) seat seats new),
   )
 
-  none_met : (now : Contents) (seats : List Seat) (crew : List (N × C)) → AreNewcomers now seats → HaveNoFaults false told_by setting (hands_of dialers clocks seats crew)
+  none_met : (now : Contents) (seats : List Seat) (crew : List (N × C)) → All (IsNewcomer now) seats → HaveNoFaults false told_by setting (hands_of dialers clocks seats crew)
   none_met now [] crew new = tt
   none_met now (seat ∷ seats) [] new = tt
-  none_met now (seat ∷ seats) (member ∷ crew) new = (new.2, none_met now seats crew new.3)
+  none_met now (seat ∷ seats) (member ∷ crew) new =
+      ((All-head (IsNewcomer now) seat seats new).2, none_met now seats crew (All-tail (IsNewcomer now) seat seats new))
 
   faults_of_hands : (seats : List Seat) (crew : List (N × C)) → length seats ≤ length crew
       → sum_by (λ h. (told_by h.shelf).faults) (hands_of dialers clocks seats crew) ≡ sum_by (λ (seat : Seat). seat.faults) seats
@@ -309,8 +327,8 @@ module _ {D G L P N M C O : Type 0} (kinds : Kinds D G L P N M C O) where
     s.shared.grows,
     λ done tells.
         all_printed kinds.sinks (length (captures s.after.book)) s.said s.told.printed was.out is.out s.told.prints
-        (worst_done s.said s.told.printed
-        (sym s.told.status_is ∙ (sym (said_by s.closed.answer s.counted status s.closed.status_is (λ memory. cc (done, memory))) ∙ done))) tells,
+        (printed_done s.said s.told.printed s.counted s.told.lacking s.told.status_is
+        (sym (said_by s.closed.answer s.counted status s.closed.status_is (λ memory. cc (done, memory))) ∙ done)) tells,
   )
 
   pub all_are_hung_up : AllAreHungUp kinds
@@ -326,18 +344,18 @@ module _ {D G L P N M C O : Type 0} (kinds : Kinds D G L P N M C O) where
         ap (λ k. k.out) logged,
       )
 
-  emptied : (closed : Bool) (before now : ℕ) (said printed status : Status) → status ≡ worst said printed → IsEnd closed before now said
+  emptied : (closed : Bool) (before now : ℕ) (said status : Status) → (said ≡ Memory → status ≡ Memory) → IsEnd closed before now said
       → (closed ≡ true) ⊎ Rose before now ⊎ (status ≡ Memory)
-  emptied closed before now Done printed status is ended = inl ended.0
-  emptied closed before now Words printed status is ended = absurd ended
-  emptied closed before now Archive printed status is ended = absurd ended
-  emptied closed before now Outside printed status is ended = inr (inl ended)
-  emptied closed before now Memory printed status is ended = inr (inr is)
+  emptied closed before now Done status lacking ended = inl ended.0
+  emptied closed before now Words status lacking ended = absurd ended
+  emptied closed before now Archive status lacking ended = absurd ended
+  emptied closed before now Outside status lacking ended = inr (inl ended)
+  emptied closed before now Memory status lacking ended = inr (inr (lacking refl))
 
   pub gates_are_emptied : GatesAreEmptied kinds
   gates_are_emptied known duty was is status s =
       ⊎_elim (λ closed. inl closed) (λ other. inr (⊎_elim (λ rose. inl rose) (λ memory. inr (memory_told s.closed.answer s.counted status s.closed.status_is memory)) other))
-      (emptied (kinds.gates.closed is.gate) (kinds.gates.faults was.gate) (kinds.gates.faults is.gate) s.said s.told.printed s.counted s.told.status_is s.ended)
+      (emptied (kinds.gates.closed is.gate) (kinds.gates.faults was.gate) (kinds.gates.faults is.gate) s.said s.counted s.told.lacking s.ended)
 
   pub logs_are_in_order : LogsAreInOrder kinds
   logs_are_in_order known duty was is status s clients origins few =
@@ -361,12 +379,10 @@ module _ {D G L P N M C O : Type 0} (kinds : Kinds D G L P N M C O) where
       let before = hands_of kinds.dialers kinds.clocks s.starts was.crew in
       let after = hands_of kinds.dialers kinds.clocks s.seats is.crew in
       let numbers = flat_map numbers_of (rounds_of false told_by setting before served.heards after served.shifts) in
-      let same : numbers ≡ all_mine s.seats =
+      let same : numbers ≡ flat_map (λ (seat : Seat). seat.contents.mine) s.seats =
       sym (all_mine_on false told_by setting before served.heards after served.shifts (none_stored kinds.dialers kinds.clocks setting (contents_of s.before) (ready_none kinds.disks s.opened) s.starts was.crew s.new))
-      ∙ mine_of_hands kinds.dialers kinds.clocks setting s.seats is.crew (omega (arith, room, s.count)) in (
-        subst (λ ns. IsPermutation ns (range_with_len (length (captures s.before.book)) (length ns))) (sym same) s.shared.once,
-        s.shared.count ∙ ap (λ ns. length (captures s.before.book) + length ns) (sym same),
-      )
+      ∙ mine_of_hands kinds.dialers kinds.clocks setting s.seats is.crew (omega (arith, room, s.count)) in
+      stored_once s.before.book s.after.book (flat_map (λ (seat : Seat). seat.contents.mine) s.seats) numbers s.shared.grows s.shared.once same
 
   pub books_lead_on : CoursesGrow → BooksLeadOn kinds
   books_lead_on grow known duty was is status s clients origins =
@@ -464,8 +480,8 @@ module _ {D G L P N M C O : Type 0} (kinds : Kinds D G L P N M C O) where
   server_answered known namespace site workers was is status told steady (inl s) =
       let printed = printed_or_lacked kinds.sinks s.said (captures_line (length (captures s.after.book))) was.out is.out s.told.printed steady.out s.told.prints in
       settled_well s.closed.answer s.counted status s.closed.status_is
-      (subst (λ (c : Status). (c ≡ Done) ⊎ (c ≡ Memory)) (sym s.told.status_is)
-      (counted_well (kinds.gates.closed is.gate) (kinds.gates.faults was.gate) (kinds.gates.faults is.gate) s.said s.told.printed steady.gate s.ended printed))
+      (counted_well (kinds.gates.closed is.gate) (kinds.gates.faults was.gate) (kinds.gates.faults is.gate) s.said s.told.printed s.counted steady.gate s.ended printed
+      s.told.lacking s.told.status_is)
   server_answered known namespace site workers was is status told steady (inr (inl lacks)) =
       settled_well lacks.closed.answer Memory status lacks.closed.status_is (inr refl)
   server_answered known namespace site workers was is status told steady (inr (inr (inl refuses))) =

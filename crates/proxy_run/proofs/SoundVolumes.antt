@@ -1,6 +1,7 @@
 -- Of a sound book whose texts the files hold each volume is sound, and so is what is told of it.
-use Rattle.std.proofs.Common.{◌≡◌, ℕ, zero, suc, ◌+◌, ◌^◌, ◌<◌, ◌≤◌, Bool, true, false, ◌||◌, nat_eq, List, [], ◌∷◌, ◌++◌, length, take, drop, get_or, All, Some, slice_get, refl, sym, ap, subst, ◌∙◌, inl, inr, arith, append_assoc, append-nil, length-append, eq-eqb}
+use Rattle.std.proofs.Common.{◌≡◌, ℕ, zero, suc, ◌+◌, ◌^◌, ◌<◌, ◌≤◌, Bool, true, false, ◌||◌, nat_eq, List, [], ◌∷◌, ◌++◌, length, map, take, drop, get_or, All, Some, slice_get, refl, sym, ap, subst, ◌∙◌, inl, inr, arith, append_assoc, append-nil, length-append, eq-eqb}
 use Rattle.std.proofs.Math.Seq.{drop-append_seam, take-append_seam}
+use Rattle.std.specs.List.{list_any}
 use Rattle.std.proofs.lemmas.Bool.{cases_lt}
 use Rattle.std.proofs.lemmas.List.{drop-drop}
 use Rattle.std.proofs.lemmas.List.Elements.{All-cons, All-get_or, All-head, All-nil, All-tail}
@@ -19,7 +20,7 @@ use Rattle.fixity.specs.Verdicts.{GroupStands, InfoEndsAt, IsSoundRest, IsVerdic
 use Rattle.fixity.specs.declared.verdict.Verdict.{Verdict}
 use Rattle.fixity.specs.declared.verdict.Verdict.TheVariants.{Sound}
 use Rattle.proxy_run.specs.Verified.{SoundVolumesVerify}
-use Rattle.proxy_run.specs.Verifies.{Checked, IsRight, facts_in, has_damage, is_damaged}
+use Rattle.proxy_run.specs.Verifies.{Checked, IsRight, is_damaged}
 use Rattle.time_text.specs.Texts.{InRange}
 use Rattle.volume_scan.proofs.FoundGroups.{group_found, group_is_found}
 use Rattle.warc_journal.specs.Extents.{warc_files}
@@ -178,14 +179,15 @@ fact_sound image book c stands fact right =
     (subst (λ n. IsRight book.namespace n image c) count right) stood.1 in
     ap (λ (v : Verdict). is_damaged v) one
 
-none_damaged : (image : Image) (book : Book) (checked : List Checked) → ImageStandsFor image book → All (IsFact book.volumes) (facts_in checked)
-    → All (IsRight book.namespace (length (facts_of book)) image) checked → has_damage checked ≡ false
+none_damaged : (image : Image) (book : Book) (checked : List Checked) → ImageStandsFor image book
+    → All (IsFact book.volumes) (map (λ (c : Checked). c.facts) checked)
+    → All (IsRight book.namespace (length (facts_of book)) image) checked → list_any (λ (c : Checked). is_damaged c.verdict) checked ≡ false
 none_damaged image book [] stands facts right = refl
 none_damaged image book (c ∷ checked) stands facts right =
-    ap (λ (b : Bool). b || has_damage checked)
-    (fact_sound image book c stands (All-head (IsFact book.volumes) c.facts (facts_in checked) facts)
+    ap (λ (b : Bool). b || list_any (λ (x : Checked). is_damaged x.verdict) checked)
+    (fact_sound image book c stands (All-head (IsFact book.volumes) c.facts (map (λ (x : Checked). x.facts) checked) facts)
     (All-head (IsRight book.namespace (length (facts_of book)) image) c checked right))
-    ∙ none_damaged image book checked stands (All-tail (IsFact book.volumes) c.facts (facts_in checked) facts)
+    ∙ none_damaged image book checked stands (All-tail (IsFact book.volumes) c.facts (map (λ (x : Checked). x.facts) checked) facts)
     (All-tail (IsRight book.namespace (length (facts_of book)) image) c checked right)
 
 pub sound_volumes_verify : SoundVolumesVerify

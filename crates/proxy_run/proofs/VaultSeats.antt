@@ -1,10 +1,9 @@
 -- The passes of a vault, told as the seats of a crew.
-use Rattle.std.proofs.Common.{◌≡◌, ℕ, zero, suc, ◌+◌, false, IsTrue, List, [], ◌∷◌, ◌++◌, drop, length, get_or, map, Option, None, Some, inl, refl, sym, ap, subst, ◌∙◌, arith}
+use Rattle.std.proofs.Common.{◌≡◌, ℕ, zero, suc, ◌+◌, ◌-◌, false, IsTrue, List, [], ◌∷◌, ◌++◌, drop, length, get_or, map, Option, None, Some, inl, refl, sym, ap, subst, ◌∙◌, arith}
 use Rattle.std.specs.Prelude.{IfSome, IsPermutation, slice_get}
 use Rattle.std.specs.List.{All, AllByRecursion, flat_map, range_with_len, sum_by}
 use Rattle.std.proofs.lemmas.List.{length-map}
-use Rattle.std.proofs.lemmas.List.Concat.{length-flat_map}
-use Rattle.std.proofs.lemmas.List.Elements.{All-from_recursion, recursion_from_All}
+use Rattle.std.proofs.lemmas.List.Elements.{All-cons, All-from_recursion, All-nil, recursion_from_All}
 use Rattle.std.proofs.lemmas.List.Sums.{sum_by-cons}
 use Rattle.archive_core.specs.Holdings.{Holdings, contents_of}
 use Rattle.archive_core.specs.Known.{by_checkpoints}
@@ -37,7 +36,7 @@ use Rattle.command.proofs.OpeningLaws.{ids_differ}
 use Rattle.command.proofs.SettlingLaws.{ready_none}
 use Rattle.command.specs.Printing.{printed_as}
 use Rattle.command.specs.Settling.{ClosesSettled, IsOf, OpensSettled}
-use Rattle.proxy_run.specs.Serves.{AreNewcomers, IsSharedOut, Seat, Serves, TellsCount, all_mine, told_by}
+use Rattle.proxy_run.specs.Serves.{IsSharedOut, Seat, Serves, TellsCount, told_by}
 use Rattle.crew.specs.Shifts.{hands_of}
 use Rattle.command.specs.declared.status.Status.{Status}
 use Rattle.proxy_run.specs.steps.Seating.{IsNameOf}
@@ -70,10 +69,13 @@ settled_calm disks laws held left ids x o =
     (left o.0 o.1 (now_image (muted held.told disks) (laws_muted disks held.told laws) (disk_of held.journal) x o)).stands
     (ids_differ held.book ids))
 
+-- A shelf that has stored nothing and met no fault, over an archive of which this is told. Where the disk is told, what is shown of it are the entries of the book.
+abbrev pub IsNewcomer : Contents → Seat → Type 0
+IsNewcomer now seat =
+    (seat.contents ≡ record now { shown = seat.contents.shown }) × (IsTrue now.tells → AreEntries now.seen seat.contents.shown) × (seat.faults ≡ 0)
+
 module _ (vault : VaultName) (now : Contents) (faults : ℕ) (name : IsNameOf vault now faults) (none : now.mine ≡ []) where
-  newcomer : (number : ℕ) (pass : Passing) → IsNewMember vault number pass
-      → ((seat_of pass).contents ≡ record now { shown = (seat_of pass).contents.shown }) × (IsTrue now.tells → AreEntries now.seen (seat_of pass).contents.shown)
-      × ((seat_of pass).faults ≡ 0)
+  newcomer : (number : ℕ) (pass : Passing) → IsNewMember vault number pass → IsNewcomer now (seat_of pass)
   newcomer number pass new =
       let tells : (contents_at pass).tells ≡ now.tells = new.member.told ∙ name.tells in
       let seen : (contents_at pass).seen ≡ now.seen = new.book_is ∙ name.book in
@@ -84,11 +86,10 @@ module _ (vault : VaultName) (now : Contents) (faults : ℕ) (name : IsNameOf va
         new_faults vault number pass new,
       )
 
-  pub newcomers : (place : ℕ → ℕ) (passes : List Passing) → ((k : ℕ) → IfSome (slice_get passes k) (IsNewMember vault (place k))) → AreNewcomers now (map seat_of passes)
-  newcomers place [] each = tt
+  pub newcomers : (place : ℕ → ℕ) (passes : List Passing) → ((k : ℕ) → IfSome (slice_get passes k) (IsNewMember vault (place k))) → All (IsNewcomer now) (map seat_of passes)
+  newcomers place [] each = All-nil (IsNewcomer now)
   newcomers place (pass ∷ passes) each =
-      let first = newcomer (place 0) pass (each 0) in
-      (first.0, first.1, first.2, newcomers (λ k. place (suc k)) passes (λ k. each (suc k)))
+      All-cons (IsNewcomer now) (seat_of pass) (map seat_of passes) (newcomer (place 0) pass (each 0)) (newcomers (λ k. place (suc k)) passes (λ k. each (suc k)))
 
 -- ---- members
 
@@ -133,7 +134,7 @@ own_of pass = own_captures pass.numbers pass.seen
 abbrev met_by : Known Noted → ℕ
 met_by pass = own_faults pass.numbers pass.seen
 
-mine_as : (passes : List Passing) → all_mine (map seat_of passes) ≡ flat_map own_of (map known_of passes)
+mine_as : (passes : List Passing) → flat_map (λ (seat : Seat). seat.contents.mine) (map seat_of passes) ≡ flat_map own_of (map known_of passes)
 mine_as [] = refl
 mine_as (pass ∷ passes) = ap (λ ns. own_of pass.known ++ ns) (mine_as passes)
 
@@ -153,13 +154,11 @@ pub shared_out : (book : Book) (passes : List Passing) (history : List Noted) �
     → IsSharedOut book (map seat_of passes) (told_book history)
 shared_out book passes history shared =
     let mine = mine_as passes in
-    let many : length (all_mine (map seat_of passes)) ≡ all_stored (map known_of passes) =
-    ap (λ (ns : List ℕ). length ns) mine ∙ length-flat_map own_of (map known_of passes) in
+    let many : all_stored (map known_of passes) ≡ length (captures (told_book history)) - length (captures book) = omega (arith, shared.count) in
     record {
       grows = shared.grown;
       each = shares history passes shared.own;
-      once = subst (λ (z : List ℕ × ℕ). IsPermutation z.0 (range_with_len (length (captures book)) z.1)) (λ i. (sym mine i, sym many i)) shared.once;
-      count = shared.count ∙ ap (λ n. length (captures book) + n) (sym many);
+      once = subst (λ (z : List ℕ × ℕ). IsPermutation z.0 (range_with_len (length (captures book)) z.1)) (λ i. (sym mine i, many i)) shared.once;
     }
 
 -- ---- what is left

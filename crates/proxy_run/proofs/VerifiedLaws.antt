@@ -1,6 +1,6 @@
 -- `verify` of an archive that is ready.
 use Rattle.std.proofs.Common.{◌≡◌, ◌⊎◌, IsTrue, List, ◌++◌, Option, None, sym, ap, ◌∙◌, inl, inr, append-nil}
-use Rattle.std.specs.Prelude.{Bool, if◌then◌else◌}
+use Rattle.std.specs.Prelude.{Bool, if◌then◌else◌, map}
 use Rattle.capture.specs.declared.book.Book.{Book}
 use Rattle.archive_volumes.specs.Facts.{facts_of}
 use Rattle.archive_volumes.specs.declared.volume_facts.VolumeFacts.{VolumeFacts}
@@ -16,7 +16,7 @@ use Rattle.command.specs.Printing.{printed_as}
 use Rattle.archive_shelf.specs.declared.depth.Depth.TheVariants.{Checkpoints}
 use Rattle.proxy_run.specs.Pipes.{Refuses}
 use Rattle.proxy_run.specs.Verified.{IsSureOf, VerifiesAreAnswered}
-use Rattle.proxy_run.specs.Verifies.{ChecksVolumes, IsVerified, facts_in, lines_of}
+use Rattle.proxy_run.specs.Verifies.{Checked, ChecksVolumes, IsVerified, lines_of}
 use Rattle.command.specs.declared.status.Status.{Status}
 use Rattle.command.specs.declared.status.Status.TheVariants.{Archive, Done, Memory}
 
@@ -26,7 +26,8 @@ module _ {D G L P N M C O : Type 0} (kinds : Kinds D G L P N M C O) where
       → ChecksVolumes kinds.disks kinds.sinks book.namespace (facts_of book) was.disk is.disk was.out is.out status
       → (status ≡ Done) ⊎ (status ≡ Memory)
   checks_answered was is status book told steady stands (inl (checked, rest, front, right, inl all)) =
-      let whole : facts_in checked ≡ facts_of book = sym (append-nil (facts_in checked)) ∙ ap (λ (l : List VolumeFacts). facts_in checked ++ l) (sym all.0) ∙ front in
+      let facts = map (λ (c : Checked). c.facts) checked in
+      let whole : facts ≡ facts_of book = sym (append-nil facts) ∙ ap (λ (l : List VolumeFacts). facts ++ l) (sym all.0) ∙ front in
       let sound = sound_volumes_verify (kinds.disks.reading was.disk) book checked stands whole (right told) in
       elim (printed_or_lacked kinds.sinks _ (lines_of checked) was.out is.out status steady.out (inl all.2)) [
         | inl done ↦ inl (done ∙ ap (λ (b : Bool). if b then Archive else Done) sound)

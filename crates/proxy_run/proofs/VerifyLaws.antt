@@ -1,6 +1,7 @@
 -- A volume more was checked; what an archive tells of its volumes; and what was told of them all.
 use Rattle.std.proofs.Common.{◌≡◌, ℕ, zero, suc, ◌+◌, ◌<◌, ◌≤◌, Bool, true, false, ◌||◌, nat_eq, List, [], ◌∷◌, ◌++◌, length, get_or, All, refl, sym, ap, subst, ◌∙◌, inl, inr, ⊎_elim, arith, append_assoc, append-nil, length-append}
-use Rattle.std.specs.Prelude.{IsTrue, None, Option, codes}
+use Rattle.std.specs.Prelude.{IsTrue, None, Option, codes, map}
+use Rattle.std.specs.List.{list_any}
 use Rattle.std.proofs.lemmas.Bool.{cases_lt}
 use Rattle.std.proofs.lemmas.List.{map-append}
 use Rattle.std.proofs.lemmas.List.Concat.{flat_map-append}
@@ -23,7 +24,7 @@ use Rattle.fixity.specs.declared.verdict.Verdict.{Verdict}
 use Rattle.outside.specs.declared.sink.Sink.{Ghosts as Sinks}
 use Rattle.command.specs.Opening.{IsOpened, usual_limits}
 use Rattle.command.specs.Printing.{Prints, printed_as}
-use Rattle.proxy_run.specs.Verifies.{Checked, ChecksVolumes, IsRight, IsVerified, facts_in, has_damage, is_damaged, lines_of, verdict_line}
+use Rattle.proxy_run.specs.Verifies.{Checked, ChecksVolumes, IsRight, IsVerified, is_damaged, lines_of, verdict_line}
 use Rattle.proxy_run.specs.declared.plan.Plan.{Plan}
 use Rattle.proxy_run.specs.declared.report.Report.{Report}
 use Rattle.command.specs.declared.status.Status.{Status}
@@ -40,10 +41,12 @@ or_swap true true c = refl
 or_swap true false c = refl
 or_swap false b c = refl
 
-damage_push : (checked : List Checked) (c : Checked) → has_damage (checked ++ c ∷ []) ≡ (is_damaged c.verdict || has_damage checked)
+damage_push : (checked : List Checked) (c : Checked)
+    → list_any (λ (x : Checked). is_damaged x.verdict) (checked ++ c ∷ []) ≡ (is_damaged c.verdict || list_any (λ (x : Checked). is_damaged x.verdict) checked)
 damage_push [] c = refl
 damage_push (x ∷ checked) c =
-    ap (λ (b : Bool). is_damaged x.verdict || b) (damage_push checked c) ∙ or_swap (is_damaged x.verdict) (is_damaged c.verdict) (has_damage checked)
+    ap (λ (b : Bool). is_damaged x.verdict || b) (damage_push checked c)
+    ∙ or_swap (is_damaged x.verdict) (is_damaged c.verdict) (list_any (λ (y : Checked). is_damaged y.verdict) checked)
 
 pub checked_more : (tells : Bool) (image : Image) (plan : Plan) (facts : VolumeFacts) (others : List VolumeFacts) (was is : Report) (last : Bool) (verdict : Verdict)
     → last ≡ nat_eq (suc facts.volume) (length plan.volumes.items)
@@ -58,7 +61,7 @@ checked_more tells image plan facts others was is last verdict last_is right lin
     record {
       checked = before.checked ++ c ∷ [];
       front = ap (λ (l : List VolumeFacts). l ++ others) (map-append (λ (x : Checked). x.facts) before.checked (c ∷ []))
-          ∙ append_assoc (facts_in before.checked) (facts ∷ []) others ∙ before.front;
+          ∙ append_assoc (map (λ (x : Checked). x.facts) before.checked) (facts ∷ []) others ∙ before.front;
       right = λ told. All-append (IsRight plan.namespace (length plan.volumes.items) image) before.checked (c ∷ []) (before.right told)
           (All-cons (IsRight plan.namespace (length plan.volumes.items) image) c [] (last_right told) (All-nil (IsRight plan.namespace (length plan.volumes.items) image)));
       lines_are = lines ∙ ap (λ (l : List ℕ). l ++ verdict_line facts.volume verdict) before.lines_are

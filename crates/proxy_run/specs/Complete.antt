@@ -16,9 +16,11 @@ use Rattle.capture.specs.declared.captured.Stored.{Stored}
 use Rattle.capture.specs.declared.site.Site.{Site}
 use Rattle.disk_model.specs.Crash.{Leaves}
 use Rattle.disk_model.specs.Image.{Image}
-use Rattle.command.specs.Objects.{Kinds, Objects, UsesFirst, with_one}
+use Rattle.command.specs.Objects.{Kinds, Objects, UsesFirst, objects_of, with_one}
+use Rattle.importing.specs.Imports.{Imports}
+use Rattle.proxy_run.specs.Follows.{Follows}
 use Rattle.proxy_run.specs.Pipes.{HasServed, Pipes}
-use Rattle.proxy_run.specs.Runs.{HasReplicated, HasTakenIn, Runs}
+use Rattle.proxy_run.specs.Runs.{Runs}
 use Rattle.replica.specs.declared.asking.SourceFault.TheVariants as sources
 use Rattle.replica.specs.declared.following.Stop.{Stop}
 use Rattle.replica.specs.declared.following.Stop.TheVariants.{Source, Piece}
@@ -134,10 +136,12 @@ module _ {D G L P N M C O : Type 0} (kinds : Kinds D G L P N M C O) where
       → IsTrue (told_at Checkpoints kinds.disks.tells known) → IsTrue kinds.clients_tell → IsTrue kinds.origins_tell → NoFaults was is
       → (site : Option Site) → Runs kinds known (Some (Pipe namespace)) site was is status → (status ≡ Done) ⊎ (status ≡ Memory) ⊎ ServesBadly was is status
 
-  -- an import took not all
+  -- an import took not all; the crew wasn't touched
   pub record ImportsBadly (known : Option Book) (namespace : List ℕ) (was is : Objects D G (List (N × C)) O) (status : Status) : Type 0 where
-    pub taken : HasTakenIn kinds known namespace was is status
-    pub badly : IsNotTaken taken.imported.input taken.imported.intake.refused
+    pub imported : Imports kinds.disks kinds.gates kinds.sinks kinds.clients_tell known (Some namespace) (objects_of was.disk was.gate tt was.out)
+        (objects_of is.disk is.gate tt is.out) status
+    pub untouched : is.crew ≡ was.crew
+    pub badly : IsNotTaken imported.input imported.intake.refused
 
   -- And so `import` goes well, unless its input isn't taken whole.
   abbrev pub ImportsAreAnswered : Type 0
@@ -147,10 +151,13 @@ module _ {D G L P N M C O : Type 0} (kinds : Kinds D G L P N M C O) where
       → Runs kinds known (Some (Import namespace)) site was is status
       → (status ≡ Done) ⊎ (status ≡ Memory) ⊎ ImportsBadly known namespace was is status
 
-  -- a source wasn't followed to its end
+  -- a source wasn't followed to its end, with the dialer of the crew's first member; the gate wasn't touched
   pub record FollowsBadly (known : Option Book) (namespace : List ℕ) (site : Site) (was is : Objects D G (List (N × C)) O) (status : Status) : Type 0 where
-    pub taken : HasReplicated kinds known namespace site was is status
-    pub badly : IsNotFollowed taken.follows.follows.result
+    pub first : UsesFirst was.crew is.crew
+    pub follows : Follows kinds.disks kinds.dialers kinds.sinks kinds.origins_tell known (Some namespace) site (objects_of was.disk tt first.before was.out)
+        (objects_of is.disk tt first.after is.out) status
+    pub untouched : is.gate ≡ was.gate
+    pub badly : IsNotFollowed follows.follows.result
 
   -- And so `follow` goes well, unless its source isn't followed to its end.
   abbrev pub FollowsAreAnswered : Type 0
@@ -162,16 +169,17 @@ module _ {D G L P N M C O : Type 0} (kinds : Kinds D G L P N M C O) where
   -- Each image that `follow` may leave, and so what a read gives, is settled for a book that the next run may know, where the ids differ.
   abbrev pub FollowsLeaveReady : Type 0
   FollowsLeaveReady =
-      (known : Option Book) (namespace : List ℕ) (site : Site) (was is : Objects D G (List (N × C)) O) (status : Status)
-      (taken : HasReplicated kinds known namespace site was is status)
-      → IsTrue (told_at Checkpoints kinds.disks.tells known) → HasIds taken.follows.after.book → (image : Image) → kinds.disks.images is.disk image
+      (known : Option Book) (namespace : List ℕ) (site : Site) (was is : Objects D ⊤ (N × C) O) (status : Status)
+      (follows : Follows kinds.disks kinds.dialers kinds.sinks kinds.origins_tell known (Some namespace) site was is status)
+      → IsTrue (told_at Checkpoints kinds.disks.tells known) → HasIds follows.after.book → (image : Image) → kinds.disks.images is.disk image
       → IsReadied (Some namespace) image
 
   -- Each image that `import` may leave, and so what a read gives, is settled for a book that the next run may know, where the ids differ.
   abbrev pub ImportsLeaveReady : Type 0
   ImportsLeaveReady =
-      (known : Option Book) (namespace : List ℕ) (was is : Objects D G (List (N × C)) O) (status : Status) (taken : HasTakenIn kinds known namespace was is status)
-      → IsTrue (told_at Checkpoints kinds.disks.tells known) → HasIds taken.imported.after.seen → (image : Image) → kinds.disks.images is.disk image
+      (known : Option Book) (namespace : List ℕ) (was is : Objects D G ⊤ O) (status : Status)
+      (imported : Imports kinds.disks kinds.gates kinds.sinks kinds.clients_tell known (Some namespace) was is status)
+      → IsTrue (told_at Checkpoints kinds.disks.tells known) → HasIds imported.after.seen → (image : Image) → kinds.disks.images is.disk image
       → IsReadied (Some namespace) image
 
   -- Each image that `pipe` may leave, and so what a read gives, is settled for a book that the next run may know, where the ids differ.

@@ -1,5 +1,5 @@
 -- What the command `follow` leaves.
-use Rattle.std.specs.Prelude.{◌≡◌, ◌⊎◌, ℕ, Bool, List, codes, length, IsTrue, Option, Result, MatchResult, ⊤}
+use Rattle.std.specs.Prelude.{◌≡◌, ◌⊎◌, ℕ, Bool, List, length, IsTrue, Option, Result, MatchResult, ⊤}
 use Rattle.archive_core.specs.Holdings.{Holdings}
 use Rattle.archive_shelf.specs.Answers.{CountsIf}
 use Rattle.archive_opening.specs.Telling.{HasCheckpointsOf}
@@ -19,8 +19,9 @@ use Rattle.archive_core.specs.Known.{by_checkpoints}
 use Rattle.command.specs.Objects.{Objects}
 use Rattle.command.specs.Opening.{IsOpened}
 use Rattle.command.specs.Printing.{LacksMemory, Printed, Prints, printed_as}
+use Rattle.command.specs.Texts.{captures_line}
 use Rattle.replica.specs.Sources.{source_of}
-use Rattle.proxy_run.specs.StopTexts.{TellsStop, numbered}
+use Rattle.proxy_run.specs.StopTexts.{TellsStop}
 use Rattle.replica.specs.declared.following.Stop.{Stop}
 use Rattle.command.specs.declared.status.Status.{Status}
 use Rattle.command.specs.declared.status.Status.TheVariants.{Done}
@@ -34,7 +35,7 @@ module _ {D N M O : Type 0} (disks : Disks D) (dialers : Dialers N M) (sinks : S
     pub followed : HasFollowed disks source tells was is (dialers.links dialer_was) (dialers.links dialer_is) result
     pub dialer_faults : CountsIf (is_outside_stop result) (dialers.faults dialer_was) (dialers.faults dialer_is)
     pub told : MatchResult result
-        (λ done. Prints sinks Done (numbered (codes "captures ") (length (captures is.book))) output.was output.is output.status
+        (λ done. Prints sinks Done (captures_line (length (captures is.book))) output.was output.is output.status
         ⊎ LacksMemory sinks output.was output.is output.status)
         (λ stop. TellsStop sinks stop output.was output.is output.status)
 

@@ -30,35 +30,28 @@ module _ {D G L P N M C O : Type 0} (kinds : Kinds D G L P N M C O) (known : Opt
     pub printed : Prints kinds.sinks status.Words usage was.out is.out result
     pub untouched : is ≡ record was { out = is.out }
 
-  -- the archive took the gate's first connection in; the crew wasn't touched
-  pub record HasTakenIn (namespace : List ℕ) (was is : Objects D G (List (N × C)) O) (result : Status) : Type 0 where
-    pub imported : Imports kinds.disks kinds.gates kinds.sinks kinds.clients_tell known (Some namespace) (objects_of was.disk was.gate tt was.out)
-        (objects_of is.disk is.gate tt is.out) result
-    pub untouched : is.crew ≡ was.crew
-
-  -- the source at the site was followed with the dialer of the crew's first member, and the others stay; the gate wasn't touched
-  pub record HasReplicated (namespace : List ℕ) (site : Site) (was is : Objects D G (List (N × C)) O) (result : Status) : Type 0 where
-    pub first : UsesFirst was.crew is.crew
-    pub follows : Follows kinds.disks kinds.dialers kinds.sinks kinds.origins_tell known (Some namespace) site (objects_of was.disk tt first.before was.out)
-        (objects_of is.disk tt first.after is.out) result
-    pub untouched : is.gate ≡ was.gate
-
-  -- By what the words ask for, and the site of a base among them, and which book is known of the disk, if one is. For a pipe the first member of the crew works,
-  -- and the others stay. There may be no memory to look at the base: then nothing is touched. Where an archive is counted, or the bytes of its volumes are checked,
-  -- neither gate nor crew is touched, and a trial, which is made in memory, doesn't touch the disk either. A check of bytes doesn't depend on how many workers made
-  -- it.
+  -- By what the words ask for, and the site of a base among them, and which book is known of the disk, if one is. For a pipe, and to follow a source, the first
+  -- member of the crew works, and the others stay; an import doesn't touch the crew, and to follow a source doesn't touch the gate. There may be no memory to look
+  -- at the base: then nothing is touched. Where an archive is counted, or the bytes of its volumes are checked, neither gate nor crew is touched, and a trial, which
+  -- is made in memory, doesn't touch the disk either. A check of bytes doesn't depend on how many workers made it.
   abbrev pub Runs : Option Command → Option Site → Objects D G (List (N × C)) O → Objects D G (List (N × C)) O → Status → Type 0
   Runs None site was is result = Misspells was is result
   Runs (Some (Pipe namespace)) site was is result =
       ((first : UsesFirst was.crew is.crew) × Pipes kinds known (Some namespace) (with_one was first.before) (with_one is first.after) result)
       ⊎ Refuses kinds (by_checkpoints was.disk (Some namespace) known) was is result
-  Runs (Some (Import namespace)) site was is result = HasTakenIn namespace was is result ⊎ Refuses kinds (by_checkpoints was.disk (Some namespace) known) was is result
+  Runs (Some (Import namespace)) site was is result =
+      (Imports kinds.disks kinds.gates kinds.sinks kinds.clients_tell known (Some namespace) (objects_of was.disk was.gate tt was.out) (objects_of is.disk is.gate tt is.out) result
+      × (is.crew ≡ was.crew))
+      ⊎ Refuses kinds (by_checkpoints was.disk (Some namespace) known) was is result
   Runs (Some Check) site was is result =
       (IsCounted kinds.disks kinds.sinks was.disk is.disk (printed_as was.out is.out result) × (is ≡ record was { disk = is.disk; out = is.out }))
       ⊎ Refuses kinds (record { disk = was.disk; depth = Whole; asked = None; known = None }) was is result
   Runs (Some (Follow namespace)) None was is result = Misspells was is result ⊎ ((result ≡ status.Memory) × (is ≡ was))
   Runs (Some (Follow namespace)) (Some site) was is result =
-      HasReplicated namespace site was is result ⊎ Refuses kinds (by_checkpoints was.disk (Some namespace) known) was is result ⊎ ((result ≡ status.Memory) × (is ≡ was))
+      ((first : UsesFirst was.crew is.crew)
+      × Follows kinds.disks kinds.dialers kinds.sinks kinds.origins_tell known (Some namespace) site (objects_of was.disk tt first.before was.out) (objects_of is.disk tt first.after is.out) result
+      × (is.gate ≡ was.gate))
+      ⊎ Refuses kinds (by_checkpoints was.disk (Some namespace) known) was is result ⊎ ((result ≡ status.Memory) × (is ≡ was))
   Runs (Some (Serve namespace workers)) None was is result = Misspells was is result ⊎ ((result ≡ status.Memory) × (is ≡ was))
   Runs (Some (Serve namespace workers)) (Some site) was is result =
       Serves kinds known (record { asked = Some namespace; site = site; workers = workers }) was is result

@@ -1,5 +1,5 @@
 -- What the command `serve` leaves.
-use Rattle.std.specs.Prelude.{◌≡◌, ◌⊎◌, ℕ, ◌+◌, List, [], ◌∷◌, false, drop, length, slice_get, IfSome, IsTrue, IsPermutation, Option, None}
+use Rattle.std.specs.Prelude.{◌≡◌, ◌≢◌, ◌⊎◌, ℕ, ◌-◌, List, ◌∷◌, false, drop, length, slice_get, All, IfSome, IsTrue, IsPermutation, Option, None}
 use Rattle.std.specs.List.{flat_map, range_with_len, sum_by}
 use Rattle.std.specs.List.Sorted.{IsStrictlyIncreasing}
 use Rattle.archive_core.specs.Holdings.{Holdings, contents_of}
@@ -27,7 +27,7 @@ use Rattle.command.specs.Settling.{ClosesSettled, OpensSettled}
 use Rattle.crew.specs.Shifts.{hands_of}
 use Rattle.command.specs.Texts.{captures_line}
 use Rattle.command.specs.declared.status.Status.{Status}
-use Rattle.command.specs.declared.status.Status.TheVariants.{Done, Words, Archive, Outside, Memory}
+use Rattle.command.specs.declared.status.Status.TheVariants.{Memory}
 use Rattle.vault.specs.Company.{untold}
 use Rattle.warc_journal.specs.Journals.{disk_of}
 
@@ -47,39 +47,21 @@ told_by seat = record {
   crash = untold;
 }
 
--- Shelves that have stored nothing and met no fault, over an archive of which this is told. Where the disk is told, what is shown of it are
--- the entries of the book.
-abbrev pub AreNewcomers : Contents → List Seat → Type 0
-AreNewcomers now [] = Unit {0}
-AreNewcomers now (seat ∷ seats) =
-    (seat.contents ≡ record now { shown = seat.contents.shown }) × (IsTrue now.tells → AreEntries now.seen seat.contents.shown)
-    × (seat.faults ≡ 0) × AreNewcomers now seats
-
--- the numbers of the captures that they stored, shelf by shelf
-abbrev pub all_mine : List Seat → List ℕ
-all_mine seats = flat_map (λ seat. seat.contents.mine) seats
-
 -- Between two books, these shelves stored just the captures behind those of the first one, each once: each by rising numbers, and what it has
 -- seen has grown into the last one.
 pub record IsSharedOut (before : Book) (seats : List Seat) (after : Book) : Type 0 where
   pub grows : Grows before after
   pub each : (k : ℕ) → IfSome (slice_get seats k) (λ (seat : Seat). Grows seat.contents.seen after × IsStrictlyIncreasing seat.contents.mine)
-  pub once : IsPermutation (all_mine seats) (range_with_len (length (captures before)) (length (all_mine seats)))
-  pub count : length (captures after) ≡ length (captures before) + length (all_mine seats)
+  pub once : IsPermutation (flat_map (λ (seat : Seat). seat.contents.mine) seats)
+      (range_with_len (length (captures before)) (length (captures after) - length (captures before)))
 
--- Memory goes before every other status.
-abbrev pub worst : (said printed : Status) → Status
-worst Done printed = printed
-worst Words printed = printed
-worst Archive printed = printed
-worst Outside printed = printed
-worst Memory printed = Memory
-
--- How many captures there are was printed, or a front of that where the output failed, or there was no memory.
+-- How many captures there are was printed, or a front of that where the output failed, or there was no memory. The status says which, but where memory was
+-- wanting before: that goes before every other status.
 pub record TellsCount {O : Type 0} (sinks : Sinks O) (count : ℕ) (said : Status) (output : Printed O) : Type 0 where
   pub printed : Status
   pub prints : Prints sinks said (captures_line count) output.was output.is printed ⊎ LacksMemory sinks output.was output.is printed
-  pub status_is : output.status ≡ worst said printed
+  pub lacking : said ≡ Memory → output.status ≡ Memory
+  pub status_is : said ≢ Memory → output.status ≡ printed
 
 -- what a server is started for: the namespace that is asked for, if one is, where the clients come to, and how many members of the crew serve
 pub record Duty : Type 0 where
@@ -100,7 +82,9 @@ module _ {D G L P N M C O : Type 0} (kinds : Kinds D G L P N M C O) (known : Opt
     pub said : Status
     pub counted : Status
     pub opened : OpensSettled kinds.disks (by_checkpoints was.disk duty.asked known) before
-    pub new : AreNewcomers (contents_of before) starts
+    -- each shelf began with the archive that was opened, had stored nothing and met no fault; where the book is told, it showed the entries of that
+    pub new : All (λ (seat : Seat). (seat.contents ≡ record (contents_of before) { shown = seat.contents.shown })
+        × (IsTrue before.told → AreEntries before.book seat.contents.shown) × (seat.faults ≡ 0)) starts
     pub workers_are : length starts ≡ duty.workers
     pub count : length seats ≡ duty.workers
     pub serves : IsTrue kinds.clients_tell → IsTrue kinds.origins_tell

@@ -1,5 +1,6 @@
 -- What `verify` tells of an archive whose bytes are what was written.
-use Rattle.std.specs.Prelude.{◌≡◌, ◌⊎◌, ℕ, false, List, length, All, IsTrue, Some, None, Option}
+use Rattle.std.specs.Prelude.{◌≡◌, ◌⊎◌, ℕ, false, List, length, map, All, IsTrue, Some, None, Option}
+use Rattle.std.specs.List.{list_any}
 use Rattle.archive_core.specs.Known.{told_at}
 use Rattle.archive_opening.specs.Counting.{HasCountsOf}
 use Rattle.archive_opening.specs.Telling.{IsReadWhole}
@@ -13,7 +14,7 @@ use Rattle.disk_model.specs.declared.disk.Disk.{Ghosts as Disks}
 use Rattle.proxy_run.specs.Complete.{IsReady, NoFaults}
 use Rattle.command.specs.Objects.{Kinds, Objects}
 use Rattle.proxy_run.specs.Runs.{Runs}
-use Rattle.proxy_run.specs.Verifies.{Checked, IsRight, facts_in, has_damage}
+use Rattle.proxy_run.specs.Verifies.{Checked, IsRight, is_damaged}
 use Rattle.command.specs.declared.status.Status.{Status}
 use Rattle.command.specs.declared.status.Status.TheVariants.{Done, Memory}
 use Rattle.command.specs.declared.words.Command.TheVariants.{Verify}
@@ -21,14 +22,15 @@ use Rattle.command.specs.declared.words.Command.TheVariants.{Verify}
 -- Of files that stand for a sound book no volume is damaged, by the verdict that its bytes have.
 abbrev pub SoundVolumesVerify : Type 0
 SoundVolumesVerify =
-    (image : Image) (book : Book) (checked : List Checked) → ImageStandsFor image book → facts_in checked ≡ facts_of book
-    → All (IsRight book.namespace (length (facts_of book)) image) checked → has_damage checked ≡ false
+    (image : Image) (book : Book) (checked : List Checked) → ImageStandsFor image book
+    → map (λ (c : Checked). c.facts) checked ≡ facts_of book → All (IsRight book.namespace (length (facts_of book)) image) checked
+    → list_any (λ (c : Checked). is_damaged c.verdict) checked ≡ false
 
 -- The verdicts on volumes that are due by bytes alone are one, whoever finds them, and whatever is known of the book.
 abbrev pub VolumesVerifyOneWay : Type 0
 VolumesVerifyOneWay =
     (image : Image) (book other : Book) (checked others : List Checked) → HasCountsOf image book → HasCountsOf image other
-    → facts_in checked ≡ facts_of book → facts_in others ≡ facts_of other
+    → map (λ (c : Checked). c.facts) checked ≡ facts_of book → map (λ (c : Checked). c.facts) others ≡ facts_of other
     → All (IsRight book.namespace (length (facts_of book)) image) checked → All (IsRight other.namespace (length (facts_of other)) image) others
     → checked ≡ others
 

@@ -1,6 +1,6 @@
 -- What the command `verify` leaves.
-use Rattle.std.specs.Prelude.{◌≡◌, ◌⊎◌, ℕ, suc, Bool, true, false, if◌then◌else◌, nat_eq, ◌||◌, List, [], ◌∷◌, ◌++◌, codes, decimal, length, map, All, IsTrue}
-use Rattle.std.specs.List.{flat_map}
+use Rattle.std.specs.Prelude.{◌≡◌, ◌⊎◌, ℕ, suc, Bool, true, false, if◌then◌else◌, nat_eq, List, [], ◌∷◌, ◌++◌, codes, decimal, length, map, All, IsTrue}
+use Rattle.std.specs.List.{flat_map, list_any}
 use Rattle.archive_core.specs.Holdings.{Holdings}
 use Rattle.archive_volumes.specs.Facts.{facts_of}
 use Rattle.archive_volumes.specs.declared.volume_facts.VolumeFacts.{VolumeFacts}
@@ -22,14 +22,10 @@ use Rattle.command.specs.declared.status.Status.TheVariants.{Archive, Done}
 
 -- ---- what is printed
 
--- how long a sound volume is, without an unfinished tail, or where the damage of a volume begins
-abbrev pub verdict_text : Verdict → List ℕ
-verdict_text (Sound bytes) = codes " sound " ++ decimal bytes
-verdict_text (Damaged place) = codes " damaged " ++ decimal place
-
--- the line of a volume
+-- The line of a volume: how long it is where it is sound, without an unfinished tail, or where its damage begins.
 unfoldable pub verdict_line : ℕ → Verdict → List ℕ
-verdict_line volume verdict = file_name Warc volume ++ verdict_text verdict ++ (line_feed ∷ [])
+verdict_line volume (Sound bytes) = file_name Warc volume ++ codes " sound " ++ decimal bytes ++ (line_feed ∷ [])
+verdict_line volume (Damaged place) = file_name Warc volume ++ codes " damaged " ++ decimal place ++ (line_feed ∷ [])
 
 -- ---- the verdicts
 
@@ -37,9 +33,6 @@ verdict_line volume verdict = file_name Warc volume ++ verdict_text verdict ++ (
 pub record Checked : Type 0 where
   pub facts : VolumeFacts
   pub verdict : Verdict
-
-abbrev pub facts_in : List Checked → List VolumeFacts
-facts_in checked = map (λ (c : Checked). c.facts) checked
 
 -- their lines, in order
 abbrev pub lines_of : List Checked → List ℕ
@@ -49,11 +42,6 @@ abbrev pub is_damaged : Verdict → Bool
 is_damaged (Sound bytes) = false
 is_damaged (Damaged place) = true
 
--- one of them is damaged
-abbrev pub has_damage : List Checked → Bool
-has_damage [] = false
-has_damage (c ∷ checked) = is_damaged c.verdict || has_damage checked
-
 -- the verdict is the one on the bytes of the volume's file, of so many volumes that an archive of this namespace has; behind the last one alone a tail may stand
 abbrev pub IsRight : (namespace : List ℕ) → (count : ℕ) → Image → Checked → Type 0
 IsRight namespace count image c =
@@ -62,14 +50,14 @@ IsRight namespace count image c =
 -- ---- the command
 
 module _ {D O : Type 0} (disks : Disks D) (sinks : Sinks O) (namespace : List ℕ) (volumes : List VolumeFacts) (was is : D) (out_was out_is : O) (status : Status) where
-  -- The first of the volumes were checked, in order: the verdicts are those on the bytes that a read gives, and their lines were printed. Each was checked, or the
-  -- disk failed behind them, which was told then. Or there was no memory.
+  -- The first of the volumes were checked, in order: the verdicts are those on the bytes that a read gives, and their lines were printed. Each was checked, and the
+  -- status tells whether one is damaged; or the disk failed behind them, which was told then. Or there was no memory.
   abbrev pub ChecksVolumes : Type 0
   ChecksVolumes =
-      ((checked : List Checked) × (rest : List VolumeFacts) × (facts_in checked ++ rest ≡ volumes)
+      ((checked : List Checked) × (rest : List VolumeFacts) × (map (λ (c : Checked). c.facts) checked ++ rest ≡ volumes)
       × (IsTrue disks.tells → All (IsRight namespace (length volumes) (disks.reading was)) checked)
       × (((rest ≡ []) × (disks.faults is ≡ disks.faults was)
-      × Prints sinks (if has_damage checked then Archive else Done) (lines_of checked) out_was out_is status)
+      × Prints sinks (if list_any (λ (c : Checked). is_damaged c.verdict) checked then Archive else Done) (lines_of checked) out_was out_is status)
       ⊎ (Rose (disks.faults was) (disks.faults is) × Prints sinks Archive (lines_of checked ++ codes "disk fault\n") out_was out_is status)))
       ⊎ LacksMemory sinks out_was out_is status
 

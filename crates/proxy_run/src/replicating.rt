@@ -1,5 +1,6 @@
 //! The command `follow`: an archive takes the captures of another one, piece by piece.
-ghost use Rattle.std.specs.Prelude.{◌≡◌, ◌⊎◌, IfOk, IfSome};
+ghost use Rattle.std.specs.Prelude.{◌≡◌, ◌∷◌, ◌++◌, ◌⊎◌, [], IfOk, IfSome, decimal};
+ghost use Rattle.httparse.specs.Ascii.{line_feed};
 ghost use Rattle.proxy_run.specs.Follows.{Follows, FollowsTo};
 ghost use Rattle.archive_core.specs.Known.{by_checkpoints};
 ghost use Rattle.command.specs.Objects.{objects_of};
@@ -7,11 +8,12 @@ ghost use Rattle.command.specs.Opening.{IsNotOpened};
 ghost use Rattle.command.specs.Printing.{LacksMemory, Prints, printed_as};
 ghost use Rattle.replica.specs.Sources.{source_of as spec_source_of};
 ghost use Rattle.command.specs.Texts as text;
-ghost use Rattle.proxy_run.specs.StopTexts.{TellsStop, numbered as spec_numbered};
+ghost use Rattle.proxy_run.specs.StopTexts.{TellsStop};
 ghost use Rattle.command.specs.Words as word;
 ghost use Rattle.archive_opening.specs.Telling.{MayBeSettled};
 ghost use Rattle.warc_text.specs.Ids.{IsUuid};
 
+use crate::counting::print_count;
 use archive_core::Archive;
 use archive_pieces::PieceFault;
 use archive_shelf::Depth;
@@ -77,13 +79,7 @@ fn follow_site<D: Disk, N: Dialer, O: Sink>(
         Err(Memory) => return Status::Memory,
     };
     match follow_source(alloc, archive, dialer, &mut window, &source) {
-        Ok(()) => tell_numbered(
-            alloc,
-            out,
-            b"captures ",
-            u64::from(archive.counts().captures),
-            Status::Done,
-        ),
+        Ok(()) => print_count(alloc, out, archive.counts().captures, Status::Done),
         Err(stop) => tell_stop(alloc, out, stop),
     }
 }
@@ -151,7 +147,7 @@ fn tell_numbered<O: Sink>(
     number: u64,
     status: Status,
 ) -> Status
-    ensures { Prints O.Sink status (spec_numbered words.now number) out.old out.new result ⊎ LacksMemory O.Sink out.old out.new result }
+    ensures { Prints O.Sink status (words.now ++ decimal number ++ (line_feed ∷ [])) out.old out.new result ⊎ LacksMemory O.Sink out.old out.new result }
 {
     match numbered(alloc, words, number) {
         Ok(text) => print_as(out, text.as_slice(), status),
@@ -160,9 +156,8 @@ fn tell_numbered<O: Sink>(
 }
 
 /// A line of some words and a number.
-#[tactic(auto, unfolding(crate::specs::StopTexts::numbered))]
 fn numbered(alloc: Global, words: &[u8], number: u64) -> Result<Vec<u8>, Memory>
-    ensures { IfOk result (λ text. text.items ≡ spec_numbered words.now number) }
+    ensures { IfOk result (λ text. text.items ≡ words.now ++ decimal number ++ (line_feed ∷ [])) }
 {
     let mut text = Vec::new(alloc);
     put_all(&mut text, words)?;

@@ -1,5 +1,6 @@
 //! What a check of an archive's volumes has found so far, and how that is told.
-ghost use Rattle.std.specs.Prelude.{◌≡◌, ◌++◌, ◌||◌, if◌then◌else◌, [], false, OnOk, decimal};
+ghost use Rattle.std.specs.Prelude.{◌≡◌, ◌∷◌, ◌++◌, ◌||◌, if◌then◌else◌, [], false, OnOk, decimal};
+ghost use Rattle.httparse.specs.Ascii.{line_feed};
 ghost use Rattle.proxy_run.specs.Verifies as spec;
 
 use capture::{Memory, put_all, put_number};
@@ -61,24 +62,17 @@ fn put_line(out: &mut Vec<u8>, volume: u32, verdict: Verdict) -> Result<(), Memo
 {
     let name = file_name(*out.allocator(), Kind::Warc, volume)?;
     put_all(out, name.as_str().as_bytes())?;
-    put_verdict(out, verdict)?;
-    put_all(out, b"\n")
-}
-
-/// Puts a verdict.
-fn put_verdict(out: &mut Vec<u8>, verdict: Verdict) -> Result<(), Memory>
-    ensures { OnOk result (out.new.items ≡ out.old.items ++ spec.verdict_text verdict) }
-{
     match verdict {
-        Verdict::Sound { bytes } => put_with_number(out, b" sound ", bytes),
-        Verdict::Damaged { place } => put_with_number(out, b" damaged ", place),
+        Verdict::Sound { bytes } => end_line(out, b" sound ", bytes),
+        Verdict::Damaged { place } => end_line(out, b" damaged ", place),
     }
 }
 
-/// Puts some words and a number.
-fn put_with_number(out: &mut Vec<u8>, words: &[u8], number: u64) -> Result<(), Memory>
-    ensures { OnOk result (out.new.items ≡ out.old.items ++ words.now ++ decimal number) }
+/// Ends a line by some words and a number.
+fn end_line(out: &mut Vec<u8>, words: &[u8], number: u64) -> Result<(), Memory>
+    ensures { OnOk result (out.new.items ≡ out.old.items ++ words.now ++ decimal number ++ (line_feed ∷ [])) }
 {
     put_all(out, words)?;
-    put_number(out, number)
+    put_number(out, number)?;
+    put_all(out, b"\n")
 }

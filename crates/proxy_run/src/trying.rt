@@ -4,8 +4,8 @@ ghost use Rattle.archive_core.specs.Told.{told_of};
 ghost use Rattle.archive_shelf.specs.Storing.{counts_of};
 ghost use Rattle.load_shelf.specs.Loads.{IsFilled};
 ghost use Rattle.outside.specs.MemoryLink.{IsNew};
-ghost use Rattle.proxy_run.specs.Trials.{IsTried, trial_namespace};
-ghost use Rattle.proxy_run.specs.steps.TrialRuns.{Tries, trial_volume};
+ghost use Rattle.proxy_run.specs.Trials.{IsTried};
+ghost use Rattle.proxy_run.specs.steps.TrialRuns.{Tries, trial_namespace, trial_volume};
 
 use crate::serving::site_of_pipe;
 use archive_core::Archive;

@@ -1,11 +1,12 @@
 -- What a check of an archive's volumes has made of the first of them.
-use Rattle.std.specs.Prelude.{◌≡◌, ◌+◌, ◌<◌, ◌^◌, Bool, List, ◌++◌, length, All, IsTrue, Result, Ok, Err, ⊤}
+use Rattle.std.specs.Prelude.{◌≡◌, ◌+◌, ◌<◌, ◌^◌, Bool, List, ◌++◌, length, map, All, IsTrue, Result, Ok, Err, ⊤}
+use Rattle.std.specs.List.{list_any}
 use Rattle.archive_volumes.specs.declared.volume_facts.VolumeFacts.{VolumeFacts}
 use Rattle.disk_model.specs.Image.{Image, file_count}
 use Rattle.disk_model.specs.declared.kind.Kind.TheVariants.{Warc}
 use Rattle.fixity.specs.declared.fault.FixityFault.{FixityFault}
 use Rattle.fixity.specs.declared.fault.FixityFault.TheVariants.{DiskFault, Memory}
-use Rattle.proxy_run.specs.Verifies.{Checked, IsRight, facts_in, has_damage, lines_of}
+use Rattle.proxy_run.specs.Verifies.{Checked, IsRight, is_damaged, lines_of}
 use Rattle.proxy_run.specs.declared.plan.Plan.{Plan}
 use Rattle.proxy_run.specs.declared.report.Report.{Report}
 
@@ -26,10 +27,10 @@ pub record IsPlan (plan : Plan) : Type 0 where
 -- all volumes but these were checked, in order, and their lines stand in the report
 pub record HasChecked (tells : Bool) (image : Image) (plan : Plan) (rest : List VolumeFacts) (report : Report) : Type 0 where
   pub checked : List Checked
-  pub front : facts_in checked ++ rest ≡ plan.volumes.items
+  pub front : map (λ (c : Checked). c.facts) checked ++ rest ≡ plan.volumes.items
   pub right : IsTrue tells → All (IsRight plan.namespace (length plan.volumes.items) image) checked
   pub lines_are : report.lines.items ≡ lines_of checked
-  pub damaged_is : report.damaged ≡ has_damage checked
+  pub damaged_is : report.damaged ≡ list_any (λ (c : Checked). is_damaged c.verdict) checked
 
 -- all but these were, or the disk failed behind the first of them, or there was no memory
 abbrev pub ChecksUpTo : Bool → Image → Plan → List VolumeFacts → Report → Result ⊤ FixityFault → Type 0
