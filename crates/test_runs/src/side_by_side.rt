@@ -17,23 +17,29 @@ use std::thread;
 use std::thread::Threads;
 use std::time::{Clock, Duration};
 
+// One request.
 const FIRST: &[u8] = b"GET http://a.test/ HTTP/1.1\r\nHost: a.test\r\n\r\n";
 
-const SECOND: &[u8] = b"GET http://b.test/ HTTP/1.1\r\nHost: b.test\r\n\r\n";
+// Two requests.
+const SECOND: &[u8] =
+    b"GET http://b.test/ HTTP/1.1\r\nHost: b.test\r\n\r\nGET http://c.test/ HTTP/1.1\r\nHost: c.test\r\n\r\n";
 
-// How many bytes of its request a client sends at once.
+// The length of each request, in bytes.
+const REQUEST: usize = 45;
+
+// How many bytes a client sends at once. The end of a request and the front of the next one come in one piece.
 const PIECE: usize = 30;
 
 const ANSWER: &[u8] = b"HTTP/1.1 200 OK\r\nContent-Length: 5\r\nConnection: close\r\n\r\nhello";
 
-// How many connections were answered, and how often that was awaited in vain, or a call came out of its turn.
+// How many requests were answered, and how often that was awaited in vain, or a call came out of its turn.
 #[derive(Clone, Copy)]
 struct Told<'a> {
     answered: &'a AtomicU64,
     wrong: &'a AtomicU64,
 }
 
-// Waits until so many connections were answered, for ten seconds at most.
+// Waits until so many requests were answered, for ten seconds at most.
 fn await_answers<R: Clock>(rt: &R, told: Told, count: u64) {
     for _ in 0..10_000 {
         if told.answered.load(Ordering::SeqCst) >= count {
@@ -61,24 +67,27 @@ fn front(text: &'static [u8], at: usize) -> &'static [u8] {
     &text[..at.saturating_add(PIECE).min(text.len())]
 }
 
-// A client, who sends one request in pieces, and nothing more. It notes where it isn't told that a request is awaited, is told so
-// inside one, or is asked for more while it waits for its answer.
+// A client, who sends requests in pieces, and nothing more. It notes where it isn't told that a request is awaited, is told so
+// inside one, or is asked for more while it waits for an answer.
 #[derive(Drop)]
 struct Client<'a> {
-    request: &'static [u8],
+    requests: &'static [u8],
     at: usize,
+    // How many of these bytes are requests that were answered.
+    answered: usize,
     told: Told<'a>,
     is_awaited: bool,
-    is_answered: bool,
 }
 
 impl<'a> Client<'a> {
-    // Whether its request hasn't begun, or was answered.
+    // Whether each request that has begun was answered.
     fn is_between(&self) -> bool {
-        if self.at == 0 {
-            return true;
-        }
-        self.is_answered
+        self.at == self.answered
+    }
+
+    // Whether a request is whole that wasn't answered.
+    fn waits(&self) -> bool {
+        self.at >= self.answered.saturating_add(REQUEST)
     }
 
     // Whether it may be asked for more.
@@ -86,7 +95,7 @@ impl<'a> Client<'a> {
         if self.is_between() {
             return self.is_awaited;
         }
-        self.at < self.request.len()
+        !self.waits()
     }
 
     // Counts a call that comes out of its turn.
@@ -107,14 +116,14 @@ impl<'a> Link for Client<'a> {
     fn read(&mut self, into: &mut [u8]) -> Result<usize, Failed> {
         self.note(self.may_send());
         self.is_awaited = false;
-        Ok(give(front(self.request, self.at), &mut self.at, into))
+        Ok(give(front(self.requests, self.at), &mut self.at, into))
     }
 
     fn write(&mut self, piece: &[u8]) -> Result<usize, Failed> {
-        if !self.is_answered {
+        if self.waits() {
             self.told.answered.fetch_add(1, Ordering::SeqCst);
+            self.answered = self.answered.saturating_add(REQUEST);
         }
-        self.is_answered = true;
         Ok(piece.len())
     }
 
@@ -124,7 +133,7 @@ impl<'a> Link for Client<'a> {
     }
 }
 
-// An origin, which may answer only once another connection was answered.
+// An origin, which may answer only once both requests of the other connection were answered.
 #[derive(Drop)]
 struct Origin<'a, R> {
     rt: &'a R,
@@ -142,7 +151,7 @@ impl<'a, R: Clock> Link for Origin<'a, R> {
 
     fn read(&mut self, into: &mut [u8]) -> Result<usize, Failed> {
         if self.waits {
-            await_answers(self.rt, self.told, 1);
+            await_answers(self.rt, self.told, 2);
         }
         self.waits = false;
         Ok(give(ANSWER, &mut self.at, into))
@@ -181,7 +190,7 @@ impl<'a, R: Clock> Dialer for Origins<'a, R> {
     fn hang_up(&mut self, _link: Origin<'a, R>) {}
 }
 
-// A gate that gives two connections, and closes only once both were answered.
+// A gate that gives two connections, and closes only once all their requests were answered.
 #[derive(Drop)]
 struct Door<'a, R> {
     rt: &'a R,
@@ -208,18 +217,18 @@ impl<'a, R: Clock> Gate for Door<'a, R> {
             return Accepted::Closed;
         }
         if self.given == 2 {
-            await_answers(self.rt, self.told, 2);
+            await_answers(self.rt, self.told, 3);
             self.closed = true;
             return Accepted::Closed;
         }
-        let request = if self.given == 0 { FIRST } else { SECOND };
+        let requests = if self.given == 0 { FIRST } else { SECOND };
         self.given = self.given.saturating_add(1);
         Accepted::Connection(Client {
-            request,
+            requests,
             at: 0,
+            answered: 0,
             told: self.told,
             is_awaited: false,
-            is_answered: false,
         })
     }
 
@@ -254,9 +263,9 @@ fn crew_of<'a, R: Clock + Abort>(
     Crew { members }
 }
 
-// The origin of the first connection answers only once the second one was answered, and the gate closes only once both were. Each
-// client is told that a request is awaited before its own and behind the answer, and not inside one, and it isn't asked for more while it
-// waits for its answer.
+// The origin of the first connection answers only once both requests of the second one were answered, and the gate closes only once all
+// were. Each client is told that a request is awaited before its first and behind the last answer, and not inside one, also where
+// the front of that came with the request before it; and it isn't asked for more while it waits for an answer.
 #[test]
 fn two_connections_are_served_at_once(rt: HostRuntime) -> Result<(), Fail> {
     serve_two(&rt, rt.alloc());
@@ -283,5 +292,5 @@ fn serve_two<R: Threads + Wait + Clock + Abort + Sync>(rt: &R, alloc: Global) {
     let ran = run(rt, alloc, &words, disk, &mut door, &mut crew, &mut out);
     assert!(rt; ran.status == Status::Done);
     assert!(rt; wrong.load(Ordering::SeqCst) == 0);
-    assert_eq!(rt; out.written(), b"captures 2\n".as_slice());
+    assert!(rt; out.written() == b"captures 3\n".as_slice());
 }
