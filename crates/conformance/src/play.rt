@@ -6,13 +6,13 @@ use crate::script::Script;
 use crate::setting::{Played, Setting};
 use capture::{Failed, Memory};
 use case_archive::Change;
-use case_disk::{Outcome, disk_of, outcome_of_calls};
+use case_disk::{Outcome, after, disk_of, kept, outcome_of_calls};
 use case_exchanges::{fetched, received_requests};
 use case_folder::Origins;
 use case_language::{Case, CaseFile, Line, NamedText, Names, difference, plays_of};
 use case_texts::Call;
-use outside::MemoryClock;
-use std::alloc::Global;
+use outside::{Link, MemoryClock, Transcript};
+use std::alloc::{AllocError, Global};
 use std::io::Print;
 use std::sync::Wait;
 use std::thread::Threads;
@@ -82,11 +82,26 @@ where
     R: Threads + Wait + Sync,
 {
     let mut script = Script::new(alloc)?;
-    if let Some(text) = set(alloc, &mut script, case, names)? {
+    difference_by(rt, alloc, &mut script, case, names)
+}
+
+/// The first difference of a case, whose lines this script takes.
+fn difference_by<'a, R>(
+    rt: &R,
+    alloc: Global,
+    script: &mut Script<'a>,
+    case: &Case<'a>,
+    names: Names,
+) -> Result<Option<String>, Memory>
+where
+    R: Threads + Wait + Sync,
+{
+    if let Some(text) = set(alloc, script, case, names)? {
         return Ok(Some(text));
     }
     for turn in 0..script.turns() {
-        if let Some(text) = difference_at(rt, alloc, &script, case, turn, names)? {
+        let outcome = outcome_of(rt, alloc, script, turn)?;
+        if let Some(text) = difference_from(alloc, case, outcome, turn, names)? {
             return Ok(Some(text));
         }
     }
@@ -108,23 +123,30 @@ fn set<'a>(
     Ok(None)
 }
 
-/// The first difference of a play in this turn.
-fn difference_at<R>(
-    rt: &R,
+/// How what a case gave in this turn differs from what it expects.
+fn difference_from(
     alloc: Global,
-    script: &Script,
     case: &Case,
+    outcome: Option<Outcome>,
     turn: u32,
     names: Names,
-) -> Result<Option<String>, Memory>
-where
-    R: Threads + Wait + Sync,
-{
-    let Some(outcome) = outcome_of(rt, alloc, script, turn)? else {
-        return Ok(Some(String::from_str(alloc, "no such call, or no objects for the case")?));
-    };
-    let (expected, given) = (case.expected.as_slice(), outcome.lines.as_slice());
-    match difference(alloc, expected, given, names)? {
+) -> Result<Option<String>, Memory> {
+    match outcome {
+        Some(outcome) => {
+            let (expected, given) = (case.expected.as_slice(), outcome.lines.as_slice());
+            in_turn(alloc, turn, difference(alloc, expected, given, names))
+        }
+        None => Ok(Some(String::from_str(alloc, "no such call, or no objects for the case")?)),
+    }
+}
+
+/// A difference with its turn.
+fn in_turn(
+    alloc: Global,
+    turn: u32,
+    differed: Result<Option<String>, AllocError>,
+) -> Result<Option<String>, Memory> {
+    match differed? {
         Some(text) => Ok(Some(format!(in alloc; "(turn {turn}) {text}")?)),
         None => Ok(None),
     }
@@ -244,35 +266,64 @@ fn fetched_for(
     request: &[u8],
 ) -> Result<Option<Outcome>, Memory> {
     let mut dialer = dialer_of(alloc, setting)?;
-    let Some(text) = fetched(alloc, &mut dialer, request)? else {
-        return Ok(None);
-    };
+    let text = fetched(alloc, &mut dialer, request);
     let mut outcome = Outcome::new(alloc);
-    outcome.put_answer(alloc, text.as_slice())?;
-    put_sent(alloc, &mut outcome, dialer.transcripts())?;
-    Ok(Some(outcome))
+    let done = put_fetched(alloc, &mut outcome, text, dialer.transcripts());
+    kept(outcome, done)
+}
+
+fn put_fetched(
+    alloc: Global,
+    outcome: &mut Outcome,
+    text: Result<Option<Vec<u8>>, Memory>,
+    sent: &[Transcript],
+) -> Result<bool, Memory> {
+    let is_fetched = put_found(alloc, outcome, text)?;
+    if is_fetched {
+        put_sent(alloc, outcome, sent)?;
+    }
+    Ok(is_fetched)
+}
+
+/// Puts a text as an answer. Whether there is one.
+fn put_found(
+    alloc: Global,
+    outcome: &mut Outcome,
+    text: Result<Option<Vec<u8>>, Memory>,
+) -> Result<bool, Memory> {
+    match text? {
+        Some(text) => after(outcome.put_answer(alloc, text.as_slice()), true),
+        None => Ok(false),
+    }
 }
 
 /// The requests of the case's client. `None` where it has none.
 fn requests_of(alloc: Global, setting: &Setting) -> Result<Option<Outcome>, Memory> {
-    let Some(mut link) = client_of(alloc, setting)? else {
-        return Ok(None);
-    };
+    match client_of(alloc, setting)? {
+        Some(mut link) => requests_on(alloc, &mut link),
+        None => Ok(None),
+    }
+}
+
+fn requests_on<L: Link>(alloc: Global, link: &mut L) -> Result<Option<Outcome>, Memory> {
+    let texts = received_requests(alloc, link)?;
     let mut outcome = Outcome::new(alloc);
-    for text in received_requests(alloc, &mut link)?.as_slice() {
+    let done = put_answers(alloc, &mut outcome, texts.as_slice());
+    after(done, Some(outcome))
+}
+
+fn put_answers(alloc: Global, outcome: &mut Outcome, texts: &[Vec<u8>]) -> Result<(), Memory> {
+    for text in texts {
         outcome.put_answer(alloc, text.as_slice())?;
     }
-    Ok(Some(outcome))
+    Ok(())
 }
 
 /// What a call answers.
 fn answered(alloc: Global, call: &Call) -> Result<Option<Outcome>, Memory> {
-    let Some(text) = answer_to(alloc, call)? else {
-        return Ok(None);
-    };
     let mut outcome = Outcome::new(alloc);
-    outcome.put_answer(alloc, text.as_slice())?;
-    Ok(Some(outcome))
+    let done = put_found(alloc, &mut outcome, answer_to(alloc, call));
+    kept(outcome, done)
 }
 
 /// The answer of the crate that has a call of this name.

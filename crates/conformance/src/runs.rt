@@ -3,8 +3,8 @@ use crate::objects::{Objects, objects_of};
 use crate::ran::put_told;
 use crate::script::Script;
 use crate::setting::Setting;
-use capture::{Failed, Memory};
-use case_disk::{Outcome, disk_of};
+use capture::Memory;
+use case_disk::{Outcome, after, disk_of, kept};
 use command::Ran;
 use disk_model::MemoryDisk;
 use proxy_run::{CREW, run};
@@ -25,71 +25,89 @@ pub fn outcome_of_runs<R>(
 where
     R: Threads + Wait + Sync,
 {
-    match disk_of(alloc, script.first.disk())? {
-        Ok(disk) => outcome_over(rt, alloc, script, disk, turn),
-        Err(Failed) => Ok(None),
-    }
-}
-
-/// What the runs give over this disk.
-fn outcome_over<R>(
-    rt: &R,
-    alloc: Global,
-    script: &Script,
-    disk: MemoryDisk,
-    turn: u32,
-) -> Result<Option<Outcome>, Memory>
-where
-    R: Threads + Wait + Sync,
-{
-    let mut outcome = Outcome::new(alloc);
-    let first = &script.first;
-    let Some(mut disk) = run_over(rt, alloc, first, disk, turn, &mut outcome)? else {
+    let Ok(disk) = disk_of(alloc, script.first.disk())? else {
         return Ok(None);
     };
-    for setting in script.further.as_slice() {
-        outcome.push(Vec::from_slice(alloc, THEN)?)?;
-        let given = setting.fused(disk);
-        disk = match run_over(rt, alloc, setting, given, turn, &mut outcome)? {
-            Some(left) => left,
-            None => return Ok(None),
-        };
-    }
-    Ok(Some(outcome))
+    let runs = Runs { rt, alloc, turn };
+    let mut outcome = Outcome::new(alloc);
+    let done = runs.run_all(&mut outcome, script, disk);
+    kept(outcome, done)
 }
 
-/// Runs the program over a disk, puts what it gives and what the stop behind it leaves, and gives that disk. `None` where
-/// the disk could not be stopped.
-fn run_over<R>(
-    rt: &R,
+/// The runs of a case in one of its turns.
+#[derive(Drop)]
+struct Runs<'a, R> {
+    rt: &'a R,
     alloc: Global,
-    setting: &Setting,
-    disk: MemoryDisk,
     turn: u32,
-    outcome: &mut Outcome,
-) -> Result<Option<MemoryDisk>, Memory>
-where
-    R: Threads + Wait + Sync,
-{
-    let mut objects = objects_of(alloc, setting)?;
-    if objects.crew.members.len() != CREW {
-        return Ok(None);
+}
+
+impl<'a, R: Threads + Wait + Sync> Runs<'a, R> {
+    /// Runs the program over a disk, and once more for each further run over what the one before it left. Whether each disk
+    /// could be stopped.
+    fn run_all(
+        &self,
+        outcome: &mut Outcome,
+        script: &Script,
+        disk: MemoryDisk,
+    ) -> Result<bool, Memory> {
+        let Some(mut disk) = self.run_over(outcome, &script.first, disk)? else {
+            return Ok(false);
+        };
+        for setting in script.further.as_slice() {
+            let told = put_then(self.alloc, outcome);
+            let given = after(told, setting.fused(disk))?;
+            disk = match self.run_over(outcome, setting, given)? {
+                Some(left) => left,
+                None => return Ok(false),
+            };
+        }
+        Ok(true)
     }
-    let words = setting.words.as_slice();
-    let Ran { status, disk } = run(
-        rt,
-        alloc,
-        words,
-        disk,
-        &mut objects.gate,
-        &mut objects.crew,
-        &mut objects.out,
-    );
-    let told = put_told(alloc, outcome, status, &objects);
-    match disk.stop(setting.stops.at(turn)) {
-        Ok(left) => with_files(alloc, outcome, told, left),
-        Err(_) => Ok(None),
+
+    /// Runs the program over a disk, puts what it gives and what the stop behind it leaves, and gives that disk. `None` where
+    /// the disk could not be stopped.
+    fn run_over(
+        &self,
+        outcome: &mut Outcome,
+        setting: &Setting,
+        disk: MemoryDisk,
+    ) -> Result<Option<MemoryDisk>, Memory> {
+        let mut objects = objects_of(self.alloc, setting)?;
+        self.run_with(outcome, setting, disk, &mut objects)
     }
+
+    /// The same with these objects.
+    fn run_with(
+        &self,
+        outcome: &mut Outcome,
+        setting: &Setting,
+        disk: MemoryDisk,
+        objects: &mut Objects,
+    ) -> Result<Option<MemoryDisk>, Memory> {
+        if objects.crew.members.len() != CREW {
+            return Ok(None);
+        }
+        let words = setting.words.as_slice();
+        let Ran { status, disk } = run(
+            self.rt,
+            self.alloc,
+            words,
+            disk,
+            &mut objects.gate,
+            &mut objects.crew,
+            &mut objects.out,
+        );
+        let told = put_told(self.alloc, outcome, status, objects);
+        match disk.stop(setting.stops.at(self.turn)) {
+            Ok(left) => with_files(self.alloc, outcome, told, left),
+            Err(_) => Ok(None),
+        }
+    }
+}
+
+fn put_then(alloc: Global, outcome: &mut Outcome) -> Result<(), Memory> {
+    outcome.push(Vec::from_slice(alloc, THEN)?)
 }
 
 /// Puts the files behind what was told, and gives the disk.
@@ -99,7 +117,16 @@ fn with_files(
     told: Result<(), Memory>,
     mut disk: MemoryDisk,
 ) -> Result<Option<MemoryDisk>, Memory> {
+    let done = put_files(alloc, outcome, told, &mut disk);
+    after(done, Some(disk))
+}
+
+fn put_files(
+    alloc: Global,
+    outcome: &mut Outcome,
+    told: Result<(), Memory>,
+    disk: &mut MemoryDisk,
+) -> Result<(), Memory> {
     told?;
-    outcome.put_files(alloc, &mut disk)?;
-    Ok(Some(disk))
+    outcome.put_files(alloc, disk)
 }

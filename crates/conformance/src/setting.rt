@@ -215,13 +215,6 @@ impl<'a> Setting<'a> {
         match line.word {
             "call" => self.take_call(alloc, Line::of(line.rest), names),
             "fetch" => self.take_fetch(alloc, line.rest, names),
-            "open" => Ok(self.plays(Played::Opening(None))),
-            "files" => Ok(self.plays(Played::Files)),
-            "receive" => Ok(self.plays(Played::Requests)),
-            "archive" => Ok(self.plays(Played::Archive)),
-            "events" => Ok(self.plays(Played::Events)),
-            "disk" => Ok(self.plays(Played::Disk)),
-            "folder" => Ok(self.plays(Played::Folder)),
             "open-skipping" => Ok(self.take_skip(line.rest, names.k)),
             "disk-half-makes" => {
                 self.disk_half_makes = true;
@@ -229,7 +222,10 @@ impl<'a> Setting<'a> {
             }
             "altered" => self.take_change(alloc, line.rest, names.k),
             "do" => self.take_deed(alloc, Line::of(line.rest), names, false),
-            _ => self.take_step(alloc, line, names),
+            _ => match played_by(line.word) {
+                Some(played) => Ok(self.plays(played)),
+                None => self.take_step(alloc, line, names),
+            },
         }
     }
 
@@ -371,6 +367,20 @@ impl<'a> Setting<'a> {
     fn take_fuse(&mut self, text: &str, k: u64) -> bool {
         self.disk_fuse = number_of(text, k);
         self.disk_fuse.is_some()
+    }
+}
+
+/// What is played, by a word that stands alone. `None` where it is none.
+fn played_by<'a>(word: &str) -> Option<Played<'a>> {
+    match word {
+        "open" => Some(Played::Opening(None)),
+        "files" => Some(Played::Files),
+        "receive" => Some(Played::Requests),
+        "archive" => Some(Played::Archive),
+        "events" => Some(Played::Events),
+        "disk" => Some(Played::Disk),
+        "folder" => Some(Played::Folder),
+        _ => None,
     }
 }
 
