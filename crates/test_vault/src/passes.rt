@@ -1,13 +1,13 @@
 //! A vault over an archive without captures, and its passes.
-ghost use Rattle.std.specs.Prelude.{◌≡◌, false};
+ghost use Rattle.std.specs.Prelude.{◌≡◌, ◌<◌, ◌≤◌, false};
 ghost use Rattle.std.specs.List.{All};
 ghost use Rattle.warc_text.specs.Fits.{Fits};
 ghost use Rattle.vault.specs.Members.{IsMember};
 
 use archive_core::Archive;
-use archive_shelf::{Counts, Depth, Finder, Receipt, Shelf, StoreFault};
+use archive_shelf::{Counts, Depth, Finder, Shelf};
 use capture::{Limits, Taken};
-use disk_model::{Disk, MemoryDisk};
+use disk_model::Disk;
 use shown::Shown;
 use std::alloc::Global;
 use std::process::Abort;
@@ -33,26 +33,42 @@ pub(crate) fn begun<J: Naming, D: Disk>(unnamed: Unnamed<D>) -> (Vault<D>, Vec<V
     unnamed.named::<J>()
 }
 
-// One of the passes.
-pub(crate) fn take_pass<J: Naming, R: Abort>(rt: &R, passes: &mut Vec<VaultPass>) -> VaultPass
-    requires { All (λ p. IsMember J.vault p.known) passes.old.items }
-    ensures member { IsMember J.vault result.known }
-    ensures lock { result.known.lock ≡ J.vault.lock }
-    ensures others { All (λ p. IsMember J.vault p.known) passes.new.items }
+// One of the passes, at its vault.
+pub(crate) fn seated<'a, J: Naming, R: Abort, D: Disk>(
+    rt: &'a R,
+    vault: &'a Vault<D>,
+    passes: &mut Vec<VaultPass>,
+) -> At<'a, R, D, J>
+    requires vault { vault.now ≡ J.vault.lock }
+    requires members { All (λ p. IsMember J.vault p.known) passes.old.items }
+    ensures { All (λ p. IsMember J.vault p.known) passes.new.items }
 {
-    passes.pop().expect(rt, "a pass is left")
+    At::new(rt, vault, passes.pop().expect(rt, "a pass is left"))
 }
 
-// An archive without captures.
-pub(crate) fn opened<R: Abort>(rt: &R, alloc: Global) -> Archive<MemoryDisk> {
-    let disk = MemoryDisk::new(alloc, Vec::new(alloc));
+// A vault round the archive of a disk, with so many passes.
+pub(crate) fn vault_over<R: Wait + Abort, D: Disk + Drop>(
+    rt: &R,
+    alloc: Global,
+    disk: D,
+    passes: u32,
+) -> Unnamed<D>
+    requires { (0 < passes) × (passes ≤ 17) }
+{
+    match Unnamed::new(alloc, rt, opened(rt, alloc, disk), passes, not_said(rt)) {
+        Ok(unnamed) => unnamed,
+        Err(_) => panic!(rt; "no memory"),
+    }
+}
+
+fn opened<R: Abort, D: Disk + Drop>(rt: &R, alloc: Global, disk: D) -> Archive<D> {
     match Archive::reopen(alloc, disk, None, limits(), Depth::Whole) {
         Ok(archive) => archive,
         Err(_) => panic!(rt; "no archive"),
     }
 }
 
-pub(crate) fn limits() -> Limits
+fn limits() -> Limits
     ensures { result ≡ record { volume_bytes = 1000000; captures = 100 } }
 {
     Limits {
@@ -62,27 +78,10 @@ pub(crate) fn limits() -> Limits
 }
 
 // Stores a capture, and says which number it has, and to which one it refers.
-pub(crate) fn stored<'a, J: Naming, R: Wait, D: Disk>(
-    alloc: Global,
-    mut at: At<'a, R, D, J>,
-    taken: &Taken,
-) -> (At<'a, R, D, J>, StoreAnswer)
+pub(crate) fn stored<S: Shelf>(alloc: Global, shelf: &mut S, taken: &Taken) -> StoreAnswer
     requires { Fits taken.now }
 {
-    let answer = at.store(alloc, taken);
-    (at, told(answer))
-}
-
-// What a store answered: the capture's number and that of the one that it refers to. Where it was refused, the number is the last
-// one that there is.
-#[derive(Clone, Copy)]
-pub(crate) struct StoreAnswer {
-    pub(crate) number: u32,
-    pub(crate) same: Option<u32>,
-}
-
-pub(crate) fn told(answer: Result<Receipt, StoreFault>) -> StoreAnswer {
-    match answer {
+    match shelf.store(alloc, taken) {
         Ok(receipt) => StoreAnswer {
             number: receipt.number,
             same: receipt.same_as,
@@ -92,6 +91,26 @@ pub(crate) fn told(answer: Result<Receipt, StoreFault>) -> StoreAnswer {
             same: None,
         },
     }
+}
+
+// The same for a pass, which is given back.
+pub(crate) fn stored_at<'a, J: Naming, R: Wait, D: Disk>(
+    alloc: Global,
+    mut at: At<'a, R, D, J>,
+    taken: &Taken,
+) -> (At<'a, R, D, J>, StoreAnswer)
+    requires { Fits taken.now }
+{
+    let answer = stored(alloc, &mut at, taken);
+    (at, answer)
+}
+
+// What a store answered: the capture's number and that of the one that it refers to. Where it was refused, the number is the last
+// one that there is.
+#[derive(Clone, Copy)]
+pub(crate) struct StoreAnswer {
+    pub(crate) number: u32,
+    pub(crate) same: Option<u32>,
 }
 
 // The first capture keeps its wire, and the second one refers to it.
@@ -105,16 +124,16 @@ pub(crate) fn has_both(counts: Counts) -> bool {
 }
 
 // The number of the capture of an address that is nearest to the first moment of 1970.
-pub(crate) fn found_by_date<'a, J: Naming, R: Abort, D: Disk>(
+pub(crate) fn found_by_date<R: Abort, F: Finder>(
     rt: &R,
     alloc: Global,
-    at: &mut At<'a, R, D, J>,
+    finder: &mut F,
     address: &str,
 ) -> Option<u32> {
     let Ok(keyed) = key_of_address(alloc, address.as_bytes()) else {
         panic!(rt; "no key")
     };
-    match at.by_date(alloc, &keyed.key, 0) {
+    match finder.by_date(alloc, &keyed.key, 0) {
         Ok(Some(entry)) => Some(entry.number),
         Ok(None) => None,
         Err(_) => panic!(rt; "no answer"),

@@ -1,13 +1,11 @@
 //! Shelves of one vault: each finds and brings what the other one stored.
 ghost use Rattle.std.specs.Prelude.{◌≡◌};
-ghost use Rattle.warc_text.specs.Fits.{Fits};
 
 use crate::captures::{FIRST, PAYLOAD, SECOND, first_capture, second_capture};
 use crate::passes::{
-    are_first_and_second, begun, found_by_date, has_both, not_said, opened, take_pass, told,
+    are_first_and_second, begun, found_by_date, has_both, seated, stored, vault_over,
 };
 use archive_shelf::Shelf;
-use capture::Taken;
 use disk_model::{Disk, MemoryDisk};
 use std::alloc::Global;
 use std::marker::Brand;
@@ -23,51 +21,46 @@ fn shelves_find_and_bring_what_others_stored(rt: HostRuntime) -> Result<(), Fail
 }
 
 fn both_shelved<R: Wait + Abort>(rt: &R, alloc: Global) {
-    let one = first_capture(rt, alloc);
-    let other = second_capture(rt, alloc);
-    let Ok(unnamed) = Unnamed::new(alloc, rt, opened(rt, alloc), 2, not_said(rt)) else {
-        panic!(rt; "no memory")
-    };
-    stored_by_shelves::<Brand, R, MemoryDisk>(rt, alloc, unnamed, &one, &other);
+    let disk = MemoryDisk::new(alloc, Vec::new(alloc));
+    let unnamed = vault_over(rt, alloc, disk, 2);
+    stored_by_shelves::<Brand, R, MemoryDisk>(rt, alloc, unnamed);
 }
 
-// Each of two shelves stores a capture, and finds and brings that of the other.
+// Two passes are shelves, and end the vault.
 fn stored_by_shelves<J: Naming, R: Wait + Abort, D: Disk + Drop>(
     rt: &R,
     alloc: Global,
     unnamed: Unnamed<D>,
-    one: &Taken,
-    other: &Taken,
 )
-    requires name { unnamed ≡ J.vault }
-    requires fits { Fits one.now × Fits other.now }
+    requires { unnamed ≡ J.vault }
 {
     let (vault, mut passes) = begun::<J, D>(unnamed);
-    let second = take_pass::<J, R>(rt, &mut passes);
-    let first = take_pass::<J, R>(rt, &mut passes);
-    let mut first: At<R, D, J> = At::new(rt, &vault, first);
-    let mut second: At<R, D, J> = At::new(rt, &vault, second);
+    let mut second: At<R, D, J> = seated(rt, &vault, &mut passes);
+    let mut first: At<R, D, J> = seated(rt, &vault, &mut passes);
     assert!(rt; first.number() == 1 && second.number() == 2);
-    let own = told(first.store(alloc, one));
-    assert!(rt; found_by_date(rt, alloc, &mut first, FIRST) == Some(0));
-    assert!(rt; are_first_and_second(own, told(second.store(alloc, other))));
-    assert!(rt; found_by_date(rt, alloc, &mut second, FIRST) == Some(0));
-    assert!(rt; found_by_date(rt, alloc, &mut first, SECOND) == Some(1));
-    assert!(rt; brings_it(alloc, &mut second, 0, FIRST));
-    assert!(rt; brings_it(alloc, &mut first, 1, SECOND));
+    store_and_find(rt, alloc, &mut first, &mut second);
     let all = vault.join(first.into_pass(), second.into_pass());
     let archive = vault.close(rt, all);
-    assert!(rt; has_both(archive.counts()));
+    let counts = archive.counts();
+    drop(archive.close());
+    assert!(rt; has_both(counts));
+}
+
+// Each of two shelves stores a capture, and finds and brings that of the other.
+fn store_and_find<R: Abort, S: Shelf>(rt: &R, alloc: Global, first: &mut S, second: &mut S) {
+    let own = stored(alloc, first, &first_capture(rt, alloc));
+    assert!(rt; found_by_date(rt, alloc, first, FIRST) == Some(0));
+    let other = stored(alloc, second, &second_capture(rt, alloc));
+    assert!(rt; are_first_and_second(own, other));
+    assert!(rt; found_by_date(rt, alloc, second, FIRST) == Some(0));
+    assert!(rt; found_by_date(rt, alloc, first, SECOND) == Some(1));
+    assert!(rt; brings_it(alloc, second, 0, FIRST));
+    assert!(rt; brings_it(alloc, first, 1, SECOND));
 }
 
 // Whether a capture of this address and of the one payload is brought.
-fn brings_it<'a, J: Naming, R: Wait, D: Disk>(
-    alloc: Global,
-    at: &mut At<'a, R, D, J>,
-    number: u32,
-    address: &str,
-) -> bool {
-    match at.bring(alloc, number) {
+fn brings_it<S: Shelf>(alloc: Global, shelf: &mut S, number: u32, address: &str) -> bool {
+    match shelf.bring(alloc, number) {
         Ok(brought) => {
             brought.uri.as_slice() == address.as_bytes() && brought.payload.as_slice() == PAYLOAD
         }

@@ -4,9 +4,10 @@ ghost use Rattle.warc_text.specs.Fits.{Fits};
 
 use crate::captures::{FIRST, SECOND, first_capture, second_capture};
 use crate::passes::{
-    StoreAnswer, are_first_and_second, begun, found_by_date, has_both, not_said, opened, stored,
-    take_pass,
+    StoreAnswer, are_first_and_second, begun, found_by_date, has_both, seated, stored_at,
+    vault_over,
 };
+use archive_shelf::Finder;
 use capture::Taken;
 use disk_model::{Disk, MemoryDisk};
 use std::alloc::Global;
@@ -35,21 +36,17 @@ fn stored_beside<'a, J: Naming + Send + Sync, R: Threads + Wait + Sync, D: Disk 
         rt,
         move || -> (At<R, D, J>, StoreAnswer)
             requires { Fits one.now }
-        { stored(alloc, first, one) },
+        { stored_at(alloc, first, one) },
         move || -> (At<R, D, J>, StoreAnswer)
             requires { Fits other.now }
-        { stored(alloc, second, other) },
+        { stored_at(alloc, second, other) },
     )
 }
 
-// Whether a pass finds a capture of each of these addresses by date.
-fn finds_both<'a, J: Naming, R: Abort, D: Disk>(
-    rt: &R,
-    alloc: Global,
-    at: &mut At<'a, R, D, J>,
-) -> bool {
-    let one = found_by_date(rt, alloc, at, FIRST);
-    let other = found_by_date(rt, alloc, at, SECOND);
+// Whether a capture of each of the addresses is found by date.
+fn finds_both<R: Abort, F: Finder>(rt: &R, alloc: Global, finder: &mut F) -> bool {
+    let one = found_by_date(rt, alloc, finder, FIRST);
+    let other = found_by_date(rt, alloc, finder, SECOND);
     one.is_some() && other.is_some() && one != other
 }
 
@@ -60,37 +57,45 @@ fn two_passes_store_in_two_threads(rt: HostRuntime) -> Result<(), Fail> {
 }
 
 fn both_stored<R: Threads + Wait + Abort + Sync>(rt: &R, alloc: Global) {
-    let one = first_capture(rt, alloc);
-    let other = second_capture(rt, alloc);
-    let Ok(unnamed) = Unnamed::new(alloc, rt, opened(rt, alloc), 3, not_said(rt)) else {
-        panic!(rt; "no memory")
-    };
-    stored_in_threads::<Brand, R, MemoryDisk>(rt, alloc, unnamed, &one, &other);
+    let disk = MemoryDisk::new(alloc, Vec::new(alloc));
+    let unnamed = vault_over(rt, alloc, disk, 3);
+    stored_in_threads::<Brand, R, MemoryDisk>(rt, alloc, unnamed);
 }
 
+// Two of three passes store, and the third one looks before and behind them.
 fn stored_in_threads<
     J: Naming + Send + Sync,
     R: Threads + Wait + Abort + Sync,
     D: Disk + Send + Drop,
->(rt: &R, alloc: Global, unnamed: Unnamed<D>, one: &Taken, other: &Taken)
-    requires name { unnamed ≡ J.vault }
-    requires fits { Fits one.now × Fits other.now }
+>(rt: &R, alloc: Global, unnamed: Unnamed<D>)
+    requires { unnamed ≡ J.vault }
 {
     let (vault, mut passes) = begun::<J, D>(unnamed);
-    let first = take_pass::<J, R>(rt, &mut passes);
-    let second = take_pass::<J, R>(rt, &mut passes);
-    let third = take_pass::<J, R>(rt, &mut passes);
-    let first: At<R, D, J> = At::new(rt, &vault, first);
-    let second: At<R, D, J> = At::new(rt, &vault, second);
-    let mut third: At<R, D, J> = At::new(rt, &vault, third);
+    let first: At<R, D, J> = seated(rt, &vault, &mut passes);
+    let second: At<R, D, J> = seated(rt, &vault, &mut passes);
+    let mut third: At<R, D, J> = seated(rt, &vault, &mut passes);
     assert!(rt; found_by_date(rt, alloc, &mut third, FIRST).is_none());
-    let (first, second) = stored_beside(rt, alloc, first, one, second, other);
-    // Whichever came first, both had the same payload to store.
-    assert!(rt; are_first_and_second(first.1, second.1) || are_first_and_second(second.1, first.1));
+    let (first, second) = both_beside(rt, alloc, first, second);
     // The third pass took no turn, and finds by date what the others stored.
     assert!(rt; finds_both(rt, alloc, &mut third));
-    let both = vault.join(first.0.into_pass(), second.0.into_pass());
+    let both = vault.join(first.into_pass(), second.into_pass());
     let all = vault.join(both, third.into_pass());
     let archive = vault.close(rt, all);
-    assert!(rt; has_both(archive.counts()));
+    let counts = archive.counts();
+    drop(archive.close());
+    assert!(rt; has_both(counts));
+}
+
+// Two captures of one payload are stored beside each other. Whichever came first, the other one refers to it.
+fn both_beside<'a, J: Naming + Send + Sync, R: Threads + Wait + Abort + Sync, D: Disk + Send>(
+    rt: &'a R,
+    alloc: Global,
+    first: At<'a, R, D, J>,
+    second: At<'a, R, D, J>,
+) -> (At<'a, R, D, J>, At<'a, R, D, J>) {
+    let one = first_capture(rt, alloc);
+    let other = second_capture(rt, alloc);
+    let (first, second) = stored_beside(rt, alloc, first, &one, second, &other);
+    assert!(rt; are_first_and_second(first.1, second.1) || are_first_and_second(second.1, first.1));
+    (first.0, second.0)
 }

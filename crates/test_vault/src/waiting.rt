@@ -3,10 +3,10 @@ ghost use Rattle.std.specs.Prelude.{◌≡◌};
 ghost use Rattle.warc_text.specs.Fits.{Fits};
 
 use crate::captures::{different_capture, first_capture, second_capture};
-use crate::passes::{StoreAnswer, begun, limits, not_said, stored, take_pass};
+use crate::passes::{StoreAnswer, begun, seated, stored, stored_at, vault_over};
 use crate::waiting_disk::{Meeting, WaitingDisk};
 use archive_core::Archive;
-use archive_shelf::{Depth, Shelf};
+use archive_shelf::Shelf;
 use capture::Taken;
 use disk_model::Disk;
 use std::alloc::Global;
@@ -40,17 +40,12 @@ fn is_asked_between<R: Threads + Wait + Clock + Abort + Sync>(rt: &R, host: Host
         panic!(rt; "no memory")
     };
     let disk = WaitingDisk::new(host, alloc, other);
-    let Ok(archive) = Archive::reopen(alloc, disk, None, limits(), Depth::Whole) else {
-        panic!(rt; "no archive")
-    };
-    let Ok(unnamed) = Unnamed::new(alloc, rt, archive, 2, not_said(rt)) else {
-        panic!(rt; "no memory")
-    };
+    let unnamed = vault_over(rt, alloc, disk, 2);
     let archive = met::<Brand, R, WaitingDisk>(rt, alloc, unnamed, &meeting);
     archive.close().was_asked_between()
 }
 
-// Stores two captures, and then a third one with the payload of the first, while another pass brings the second one.
+// Two captures are stored by one pass, and then a third one, which is compared while the other pass brings the second one.
 fn met<J: Naming + Send + Sync, R: Threads + Wait + Clock + Abort + Sync, D: Disk + Send + Drop>(
     rt: &R,
     alloc: Global,
@@ -59,20 +54,38 @@ fn met<J: Naming + Send + Sync, R: Threads + Wait + Clock + Abort + Sync, D: Dis
 ) -> Archive<D>
     requires name { unnamed ≡ J.vault }
 {
-    let one = first_capture(rt, alloc);
-    let other = second_capture(rt, alloc);
-    let different = different_capture(rt, alloc);
     let (vault, mut passes) = begun::<J, D>(unnamed);
-    let first = take_pass::<J, R>(rt, &mut passes);
-    let second = take_pass::<J, R>(rt, &mut passes);
-    let first: At<R, D, J> = At::new(rt, &vault, first);
-    let second: At<R, D, J> = At::new(rt, &vault, second);
-    let (first, _) = stored(alloc, first, &one);
-    let (first, _) = stored(alloc, first, &different);
-    let ((first, answer), second) = stored_while_asked(rt, alloc, first, &other, second, meeting);
-    assert!(rt; answer.number == 2 && answer.same == Some(0));
+    let mut first: At<R, D, J> = seated(rt, &vault, &mut passes);
+    let second: At<R, D, J> = seated(rt, &vault, &mut passes);
+    store_two(rt, alloc, &mut first);
+    let (first, second) = third_stored(rt, alloc, first, second, meeting);
     let all = vault.join(first.into_pass(), second.into_pass());
     vault.close(rt, all)
+}
+
+// Stores two captures of different payloads.
+fn store_two<R: Abort, S: Shelf>(rt: &R, alloc: Global, shelf: &mut S) {
+    let _first = stored(alloc, shelf, &first_capture(rt, alloc));
+    let _second = stored(alloc, shelf, &different_capture(rt, alloc));
+}
+
+// Stores a third capture, with the payload of the first, while the other pass brings the second one.
+fn third_stored<
+    'a,
+    J: Naming + Send + Sync,
+    R: Threads + Wait + Clock + Abort + Sync,
+    D: Disk + Send,
+>(
+    rt: &'a R,
+    alloc: Global,
+    first: At<'a, R, D, J>,
+    second: At<'a, R, D, J>,
+    meeting: &Meeting,
+) -> (At<'a, R, D, J>, At<'a, R, D, J>) {
+    let other = second_capture(rt, alloc);
+    let ((first, answer), second) = stored_while_asked(rt, alloc, first, &other, second, meeting);
+    assert!(rt; answer.number == 2 && answer.same == Some(0));
+    (first, second)
 }
 
 // One pass stores, and another one asks meanwhile, each in a thread of its own.
@@ -95,7 +108,7 @@ fn stored_while_asked<
         rt,
         move || -> (At<R, D, J>, StoreAnswer)
             requires { Fits taken.now }
-        { stored(alloc, first, taken) },
+        { stored_at(alloc, first, taken) },
         move || -> At<R, D, J> { asked(rt, alloc, second, meeting) },
     )
 }
