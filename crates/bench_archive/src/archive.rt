@@ -7,8 +7,7 @@ use crate::connections::{CONNECTION, Connection, site};
 use crate::load;
 use crate::opening::opened;
 use crate::volumes::{add, begin, journal_of_nothing};
-use archive_core::Archive;
-use archive_shelf::{Counts, Depth};
+use archive_shelf::{Counts, Depth, Shelf};
 use disk_model::{Disk, MemoryDisk};
 use measuring::{Measured, Stopped, resident};
 use std::alloc::Global;
@@ -60,10 +59,10 @@ fn stored<R: Clock + Print>(
     let disk = MemoryDisk::new(alloc, Vec::new(alloc));
     let mut archive = opened(alloc, disk, volume_bytes, Depth::Whole)?;
     let nanos = fill(rt, alloc, &mut archive, captures);
-    let counts = archive.counts();
-    let disk = archive.close();
-    print_counts(rt, "stored", &counts, nanos)?;
-    Ok(disk)
+    match print_counts(rt, "stored", &archive.counts(), nanos) {
+        Ok(()) => Ok(archive.close()),
+        Err(stopped) => Err(stopped),
+    }
 }
 
 /// What an archive keeps of a capture. No other archive was made before, whose memory it could be given.
@@ -73,7 +72,7 @@ fn measure_memory<R: Files + Print>(rt: &R, alloc: Global) -> Result<(), Stopped
     let archive = opened(alloc, disk, VOLUME, Depth::Whole)?;
     let bytes = resident(rt, alloc).saturating_sub(before);
     let counts = archive.counts();
-    let _disk = archive.close();
+    drop(archive.close());
     println!(rt;
         "memory of a capture: {} bytes, {} of them",
         bytes.checked_div(u64::from(counts.captures)).unwrap_or(0),
@@ -119,15 +118,15 @@ fn open_again<R: Clock + Print>(
     let archive = opened(alloc, disk, volume_bytes, Depth::Whole)?;
     let nanos = nanos_of(rt, start);
     let counts = archive.counts();
-    let _disk = archive.close();
+    drop(archive.close());
     print_counts(rt, "opened", &counts, nanos)
 }
 
 /// Stores so many captures, and gives the nanoseconds that this took.
-fn fill<R: Clock>(
+fn fill<R: Clock, S: Shelf>(
     rt: &R,
     alloc: Global,
-    archive: &mut Archive<MemoryDisk>,
+    shelf: &mut S,
     captures: u32,
 ) -> Result<u64, Stopped>
     requires captures { captures ≤ 20000 }
@@ -136,7 +135,7 @@ fn fill<R: Clock>(
     let mut nanos = 0u64;
     for connection in 0..captures / CONNECTION {
         let connection = Connection::new(alloc, connection * CONNECTION)?;
-        nanos = nanos.saturating_add(connection.serve_timed(rt, alloc, archive, &site)?);
+        nanos = nanos.saturating_add(connection.serve_timed(rt, alloc, shelf, &site)?);
     }
     Ok(nanos)
 }

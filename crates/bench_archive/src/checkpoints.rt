@@ -3,7 +3,7 @@ use crate::opening::opened;
 use crate::stock::Stock;
 use archive_core::Archive;
 use archive_shelf::Depth;
-use disk_model::MemoryDisk;
+use disk_model::{Disk, MemoryDisk};
 use measuring::{Measured, Stopped, print_share, resident};
 use std::alloc::Global;
 use std::io::Print;
@@ -45,7 +45,7 @@ fn measure_stock<R: Clock + Files + Print>(
     let disk = settled(rt, alloc, archive, stock)?;
     let (archive, short) = open(rt, alloc, disk, Depth::Checkpoints, stock.count())?;
     let then = resident(rt, alloc).saturating_sub(before);
-    let _disk = archive.close();
+    drop(archive.close());
     print_share(rt, "opening by checkpoints, of opening whole", short, whole)?;
     print_share(
         rt,
@@ -65,9 +65,21 @@ fn open<R: Clock + Print>(
 ) -> Result<(Archive<MemoryDisk>, u64), Stopped> {
     let start = Measured::start(rt)?;
     let archive = opened(alloc, disk, VOLUME, depth)?;
+    match print_opening(rt, &start, captures) {
+        Ok(nanos) => Ok((archive, nanos)),
+        Err(stopped) => Err(stopped),
+    }
+}
+
+/// Prints what an opening took for each capture, and gives its nanoseconds.
+fn print_opening<R: Clock + Print>(
+    rt: &R,
+    start: &Measured,
+    captures: u32,
+) -> Result<u64, Stopped> {
     let nanos = start.nanos(rt)?;
     start.print(rt, "a capture found at opening", u64::from(captures))?;
-    Ok((archive, nanos))
+    Ok(nanos)
 }
 
 /// Settles the volumes of an archive, and closes it.
@@ -77,10 +89,22 @@ fn settled<R: Clock + Print>(
     mut archive: Archive<MemoryDisk>,
     stock: &Stock,
 ) -> Result<MemoryDisk, Stopped> {
+    match settle(rt, alloc, &mut archive, stock) {
+        Ok(()) => Ok(archive.close()),
+        Err(stopped) => Err(stopped),
+    }
+}
+
+/// Settles the volumes of an archive, and prints how long that took.
+fn settle<R: Clock + Print, D: Disk>(
+    rt: &R,
+    alloc: Global,
+    archive: &mut Archive<D>,
+    stock: &Stock,
+) -> Result<(), Stopped> {
     let start = Measured::start(rt)?;
     let count = archive.settle(alloc).unwrap_or(0);
     let nanos = start.nanos(rt)?;
-    let disk = archive.close();
     println!(rt;
         "{count} volumes of {} captures settled: {} ms each",
         stock.captures,
@@ -88,5 +112,5 @@ fn settled<R: Clock + Print>(
             .checked_div(u64::from(count))
             .unwrap_or(0)
     )?;
-    Ok(disk)
+    Ok(())
 }

@@ -6,7 +6,7 @@ ghost use Rattle.vault.specs.Members.{IsMember};
 use crate::connections::{CONNECTION, Connection, site};
 use crate::opening::opened;
 use crate::shared::not_said;
-use archive_shelf::Depth;
+use archive_shelf::{Depth, Shelf};
 use capture::Site;
 use disk_model::{Disk, MemoryDisk};
 use measuring::{Measured, Stopped, print_share};
@@ -65,12 +65,24 @@ pub fn measure<R: Clock + Print + Threads + Wait + Sync>(
 /// Serves all connections over an archive, and gives the nanoseconds that this took.
 fn alone<R: Clock>(rt: &R, alloc: Global) -> Result<u64, Stopped> {
     let connections = connections_of(alloc, 0, CONNECTIONS)?;
-    let site = site(alloc)?;
     let disk = MemoryDisk::new(alloc, Vec::new(alloc));
     let mut archive = opened(alloc, disk, VOLUME, Depth::Whole)?;
+    let nanos = serve_in_turn(rt, alloc, &mut archive, connections);
+    drop(archive.close());
+    nanos
+}
+
+/// Serves the connections over a shelf, one after the other, and gives the nanoseconds that this took.
+fn serve_in_turn<R: Clock, S: Shelf>(
+    rt: &R,
+    alloc: Global,
+    shelf: &mut S,
+    connections: Vec<Connection>,
+) -> Result<u64, Stopped> {
+    let site = site(alloc)?;
     let start = Measured::start(rt)?;
     for connection in connections {
-        if !connection.serve(alloc, &mut archive, &site) {
+        if !connection.serve(alloc, shelf, &site) {
             return Err(Stopped::Archive);
         }
     }
@@ -118,7 +130,9 @@ where
     let last = take_pass::<J>(&mut passes);
     let nanos = served_beside::<R, D, J>(rt, alloc, &vault, passes);
     let archive = vault.close(rt, last);
-    if archive.counts().captures == CONNECTIONS * CONNECTION {
+    let captures = archive.counts().captures;
+    drop(archive.close());
+    if captures == CONNECTIONS * CONNECTION {
         nanos
     } else {
         Err(Stopped::Archive)
@@ -233,12 +247,27 @@ fn servers_of<'a, R, D: Disk, J: Naming>(
         if from > 16 || share > 16 {
             return Err(Stopped::Archive);
         }
-        servers.push(Server {
-            at: At::new(rt, vault, pass),
-            connections: connections_of(alloc, from, share)?,
-            site: site(alloc)?,
-            is_done: true,
-        })?;
+        servers.push(server_of(alloc, At::new(rt, vault, pass), from, share)?)?;
     }
     Ok(servers)
+}
+
+/// The pass at its vault, with so many connections from this one of the load on.
+fn server_of<'a, R, D: Disk, J: Naming>(
+    alloc: Global,
+    at: At<'a, R, D, J>,
+    from: u32,
+    count: u32,
+) -> Result<Server<'a, R, D, J>, Stopped>
+    requires from { from ≤ 16 }
+    requires count { count ≤ 16 }
+{
+    let connections = connections_of(alloc, from, count)?;
+    let site = site(alloc)?;
+    Ok(Server {
+        at,
+        connections,
+        site,
+        is_done: true,
+    })
 }

@@ -6,6 +6,7 @@ use crate::connections::{CONNECTION, Connection, site};
 use crate::opening::opened;
 use crate::passes::{begun, take_pass};
 use crate::stock::Stock;
+use archive_core::Archive;
 use archive_shelf::{Depth, Finder, Shelf};
 use disk_model::{Disk, MemoryDisk};
 use measuring::{Measured, NOON, Stopped, print_share, resident, shuffled, url_of};
@@ -42,19 +43,51 @@ pub struct Costs {
 }
 
 pub fn measure<R: Clock + Files + Print + Wait>(rt: &R, alloc: Global) -> Result<(), Stopped> {
-    let disk = STOCK.disk(alloc)?;
     let keys = keys_of(alloc)?;
+    measure_keys(rt, alloc, keys.as_slice())
+}
+
+/// Looks these keys up, and stores, in an archive alone and in a vault round it.
+fn measure_keys<R: Clock + Files + Print + Wait>(
+    rt: &R,
+    alloc: Global,
+    keys: &[Key],
+) -> Result<(), Stopped> {
+    let disk = STOCK.disk(alloc)?;
     let before = resident(rt, alloc);
     let mut archive = opened(alloc, disk, VOLUME, Depth::Whole)?;
-    let alone_bytes = resident(rt, alloc).saturating_sub(before);
-    print_memory(rt, "memory of a capture of an archive alone", alone_bytes)?;
-    let alone = costs_of(rt, alloc, &mut archive, keys.as_slice(), 0)?;
+    let alone = costs_alone(rt, alloc, &mut archive, keys, before);
+    let company = costs_in_vault(rt, alloc, archive, keys, before);
+    print_costs(rt, &alone?, &company?)
+}
+
+/// What the keys and a store cost an archive alone. Before it was opened so many bytes were in use.
+fn costs_alone<R: Clock + Files + Print, S: Shelf>(
+    rt: &R,
+    alloc: Global,
+    shelf: &mut S,
+    keys: &[Key],
+    before: u64,
+) -> Result<Costs, Stopped> {
+    let bytes = resident(rt, alloc).saturating_sub(before);
+    print_memory(rt, "memory of a capture of an archive alone", bytes)?;
+    costs_of(rt, alloc, shelf, keys, 0)
+}
+
+/// What they cost a pass of a vault round the archive.
+fn costs_in_vault<R: Clock + Files + Print + Wait>(
+    rt: &R,
+    alloc: Global,
+    archive: Archive<MemoryDisk>,
+    keys: &[Key],
+    before: u64,
+) -> Result<Costs, Stopped> {
     match Unnamed::new(alloc, rt, archive, PASSES, not_said(rt)) {
         Ok(unnamed) => {
             let bytes = resident(rt, alloc).saturating_sub(before);
-            let company = in_vault::<R, MemoryDisk, Brand>(rt, alloc, unnamed, keys.as_slice())?;
+            let costs = in_vault::<R, MemoryDisk, Brand>(rt, alloc, unnamed, keys)?;
             print_memory(rt, "memory of a capture of a vault", bytes)?;
-            print_costs(rt, &alone, &company)
+            Ok(costs)
         }
         Err(_) => Err(Stopped::Memory),
     }
@@ -172,7 +205,7 @@ fn in_vault<R: Clock + Wait, D: Disk + Drop, J: Naming>(
     let (vault, mut passes) = begun::<J, D>(unnamed);
     let pass = take_pass::<J>(&mut passes);
     let (pass, costs) = of_pass::<R, D, J>(rt, alloc, &vault, pass, keys);
-    let _archive = vault.close(rt, pass);
+    drop(vault.close(rt, pass).close());
     costs
 }
 

@@ -1,4 +1,4 @@
-use Rattle.bench_archive.proofs.shared.measure.Given as goal
+use Rattle.bench_archive.proofs.shared.costs_in_vault.Given as goal
 
 -- the vault that was just made
 abbrev pub ghosts-in_vault : goal.ghosts-in_vault
