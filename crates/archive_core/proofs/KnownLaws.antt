@@ -16,7 +16,8 @@ use Rattle.archive_shelf.specs.declared.depth.Depth.{Depth}
 use Rattle.archive_shelf.specs.declared.depth.Depth.TheVariants as depths
 use Rattle.archive_shelf.specs.declared.fault.ReopenFault.{ReopenFault}
 use Rattle.archive_volumes.proofs.ChangeLaws.{DiskLaws, quiet_by}
-use Rattle.archive_opening.specs.Gathering.{IsOpened, IsUsable}
+use Rattle.archive_opening.specs.Opening.{IsDamageIn, IsOpened, IsOtherIn, IsOutside, IsUsable}
+use Rattle.archive_gathering.specs.Refusing.{CountsFault, IsCause}
 use Rattle.archive_volumes.specs.Held.{book_of}
 use Rattle.archive_volumes.specs.Spots.{is_told_form}
 use Rattle.capture.specs.declared.book.Volume.{Volume}
@@ -25,7 +26,6 @@ use Rattle.std.proofs.lemmas.List.Elements.{All-contains}
 use Rattle.archive_volumes.specs.declared.spot.Spot.{Spot}
 use Rattle.archive_core.specs.Holdings.{Holdings}
 use Rattle.archive_opening.specs.Counting.{HasCountsOf}
-use Rattle.archive_opening.specs.Opening.{CountsFault, IsCause, IsDamageIn, IsOtherIn, IsOutside}
 use Rattle.archive_opening.specs.Refusing.{IsBorneOut}
 use Rattle.archive_core.specs.Finished.{HasCheckpoint}
 use Rattle.archive_core.specs.Reopening.{AreFinishedAsTold, IsMadeOf, IsNotOpened, IsReopened}

@@ -23,7 +23,8 @@ use Rattle.warc_journal.specs.Journals.{disk_of, texts}
 use Rattle.warc_journal.specs.declared.journal.Journal.{Journal}
 use Rattle.archive_shelf.specs.Storing.{is_revisit}
 use Rattle.archive_core.proofs.ArchiveLaws.{entries_shown}
-use Rattle.archive_opening.specs.Gathering.{AreAllRead, AreNamed, GroupWasRead, IsInStepWith, IsUsable}
+use Rattle.archive_gathering.specs.Gathering.{AreAllRead, AreNamed, GroupWasRead, IsInStepWith}
+use Rattle.archive_opening.specs.Opening.{IsUsable}
 use Rattle.archive_payloads.proofs.ChooseLaws.{there_is}
 use Rattle.archive_volumes.specs.Held.{book_of}
 use Rattle.archive_core.specs.Finished.{AreLinedTo, FirstAreFinished, HasCheckpoint}
@@ -33,10 +34,10 @@ use Rattle.archive_volumes.specs.Spots.{AreHeldWhole, ArePlaced, AreSpotsOf, Are
 use Rattle.archive_volumes.specs.Volumes.{HoldsBook, IsMeasured}
 use Rattle.archive_opening.specs.declared.opening.Opened.{Opened}
 use Rattle.archive_volumes.specs.declared.spot.Spot.{Spot}
-use Rattle.archive_opening.specs.Telling.{AreNumbered}
+use Rattle.archive_gathering.specs.Shapes.{AreNumbered}
 use Rattle.archive_core.specs.Reopening.{AreFinishedAsTold, NamesCapture}
 use Rattle.archive_core.proofs.ShownLaws.{shown_from}
-use Rattle.archive_opening.specs.declared.gathered.Gathered.{Gathered}
+use Rattle.archive_gathering.specs.declared.gathered.Gathered.{Gathered}
 
 -- ---- how many refer to an earlier one
 

@@ -19,8 +19,8 @@ use Rattle.archive_volumes.specs.declared.entry.RecordAt.{RecordAt}
 use Rattle.archive_volumes.specs.declared.ready.Ready.{Ready}
 use Rattle.archive_volumes.specs.declared.spot.Spot.{Spot}
 use Rattle.archive_volumes.specs.declared.volumes.Volumes.{Volumes}
-use Rattle.archive_opening.proofs.TakeLaws.{get_before}
-use Rattle.archive_opening.specs.Gathering.{AreNamed, IsNamedAs}
+use Rattle.archive_gathering.proofs.TakeLaws.{get_before}
+use Rattle.archive_gathering.specs.Gathering.{AreNamed, IsNamedAs}
 use Rattle.archive_core.proofs.ShownLaws.{shown_from}
 use Rattle.archive_core.specs.Holdings.{Holdings, IsArchive}
 use Rattle.archive_core.specs.Shown.{numbered}

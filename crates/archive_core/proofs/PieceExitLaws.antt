@@ -38,9 +38,9 @@ use Rattle.archive_shelf.proofs.StoringLaws.{captures_more}
 use Rattle.archive_shelf.specs.Answers.{CountsIf}
 use Rattle.archive_shelf.specs.Entering.{TellsOfNew}
 use Rattle.archive_shelf.specs.Storing.{is_revisit, new_volume, with_capture}
-use Rattle.archive_opening.proofs.PlaceLaws.{answer_and_request}
-use Rattle.archive_opening.specs.Noting.{referring}
-use Rattle.archive_opening.specs.Reading.{Laws}
+use Rattle.archive_gathering.proofs.PlaceLaws.{answer_and_request}
+use Rattle.archive_gathering.specs.Noting.{referring}
+use Rattle.archive_gathering.specs.Reading.{Laws}
 use Rattle.archive_volumes.proofs.WayLaws.{room_captures, room_gains}
 use Rattle.archive_volumes.proofs.WrittenLaws.{texts_done, texts_refused}
 use Rattle.archive_volumes.specs.Entries.{EntersAs, IsEntryAt, entered}

@@ -15,7 +15,7 @@ use Rattle.archive_shelf.specs.Contents.{Contents}
 use Rattle.archive_shelf.specs.Openings.{HasIds, Moves, SameBook}
 use Rattle.archive_shelf.specs.Storing.{with_capture}
 use Rattle.archive_shelf.specs.Told.{WritesNothing}
-use Rattle.archive_opening.specs.Noting.{referring}
+use Rattle.archive_gathering.specs.Noting.{referring}
 use Rattle.archive_pieces.specs.NextPieces.{LeadsOn, NextPiecesLeadOn, Takes}
 use Rattle.archive_pieces.specs.PieceParts.{room_by}
 use Rattle.archive_pieces.specs.declared.fault.PieceFault.{PieceFault}

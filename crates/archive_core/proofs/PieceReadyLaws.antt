@@ -38,13 +38,13 @@ use Rattle.archive_shelf.proofs.ShortTexts.{is_digest}
 use Rattle.archive_shelf.specs.Comparing.{KeepsWire}
 use Rattle.archive_shelf.specs.Gaining.{VolumesAddTheirText}
 use Rattle.archive_shelf.specs.Storing.{with_capture}
-use Rattle.archive_opening.proofs.CaptureLaws.{text_is}
-use Rattle.archive_opening.proofs.PlaceLaws.{answer_and_request}
-use Rattle.archive_opening.proofs.SpottedLaws.{sound_taken, spot_placed}
-use Rattle.archive_opening.proofs.TakeLaws.{captured}
-use Rattle.archive_opening.specs.Noting.{IsGroupAt, IsWithin, referring}
-use Rattle.archive_opening.specs.Reading.{Laws}
-use Rattle.archive_opening.specs.Revisits.{IsCaptureOf, IsOriginalOf, RefersRight}
+use Rattle.archive_gathering.proofs.CaptureLaws.{text_is}
+use Rattle.archive_gathering.proofs.PlaceLaws.{answer_and_request}
+use Rattle.archive_gathering.proofs.SpottedLaws.{sound_taken, spot_placed}
+use Rattle.archive_gathering.proofs.TakeLaws.{captured}
+use Rattle.archive_gathering.specs.Noting.{IsGroupAt, IsWithin, referring}
+use Rattle.archive_gathering.specs.Reading.{Laws}
+use Rattle.archive_gathering.specs.Revisits.{IsCaptureOf, IsOriginalOf, RefersRight}
 use Rattle.archive_volumes.proofs.GroupPlaces.{in_last_volume}
 use Rattle.archive_volumes.proofs.Places.{block_in_group, stands_long}
 use Rattle.archive_volumes.proofs.RoomLaws.{texts_count}

@@ -18,7 +18,7 @@ use Rattle.warc_scan.specs.declared.group.Group.{Group}
 use Rattle.archive_shelf.proofs.CallLaws.{keeps_behind, no_more}
 use Rattle.archive_shelf.specs.Answers.{CountsIf, IsDamaged}
 use Rattle.archive_shelf.specs.Openings.{IsEarlier, LeavesNoMore}
-use Rattle.archive_opening.specs.Revisits.{RefersToNone}
+use Rattle.archive_gathering.specs.Revisits.{RefersToNone}
 use Rattle.archive_shelf.specs.Pieces.{IsSomePiece}
 use Rattle.archive_shelf.specs.Told.{WritesNothing}
 use Rattle.archive_shelf.specs.declared.fault.StoreFault.{StoreFault}

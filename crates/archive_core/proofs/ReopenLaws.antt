@@ -23,10 +23,11 @@ use Rattle.archive_shelf.specs.declared.fault.ReopenFault.{ReopenFault}
 use Rattle.archive_shelf.specs.declared.fault.ReopenFault.TheVariants as faults
 use Rattle.archive_core.proofs.NamespaceLaws.{one_namespace}
 use Rattle.archive_volumes.proofs.ChangeLaws.{DiskLaws, laws_muted, moment_told, now_image, one_of, quiet_by, stands}
-use Rattle.archive_opening.specs.Gathering.{IsOpened, IsUsable}
+use Rattle.archive_opening.specs.Opening.{HoldsOther, IsDamageIn, IsOpened, IsOtherIn, IsOutside, IsUsable}
+use Rattle.archive_gathering.specs.Refusing.{CountsFault, IsCause}
+use Rattle.archive_gathering.specs.Gathering.{IsIn}
 use Rattle.archive_volumes.specs.Held.{book_of}
 use Rattle.archive_core.specs.Holdings.{Holdings, contents_of}
-use Rattle.archive_opening.specs.Opening.{CountsFault, HoldsOther, IsCause, IsDamageIn, IsIn, IsOtherIn, IsOutside}
 use Rattle.archive_core.specs.Reopening.{IsMadeOf, IsNotOpened, IsReopened, NamesCapture}
 use Rattle.archive_core.specs.Known.{IsLined, IsNotOpenedKnown, IsReopenedKnown, MayBeKnown, opening_of, told_at}
 use Rattle.archive_core.specs.Told.{told_of}

@@ -31,8 +31,8 @@ use Rattle.archive_volumes.proofs.VolumeLaws.{texts_rest}
 use Rattle.archive_volumes.specs.Held.{book_of}
 use Rattle.archive_volumes.specs.Written.{HoldOneOf, WritesTexts, texts_as}
 use Rattle.archive_opening.specs.Counting.{HasCountsOf, LastEndsAt, StandsUpTo}
-use Rattle.archive_opening.specs.Gathering.{IsUsable}
-use Rattle.archive_opening.specs.Telling.{sealed_in}
+use Rattle.archive_opening.specs.Opening.{IsUsable}
+use Rattle.archive_gathering.specs.Shapes.{sealed_in}
 use Rattle.archive_opening.specs.declared.opening.Opened.{Opened}
 use Rattle.archive_core.specs.Holdings.{Holdings}
 use Rattle.archive_core.specs.Looking.{OnlyLooks}

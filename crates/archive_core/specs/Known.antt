@@ -16,7 +16,9 @@ use Rattle.archive_shelf.specs.declared.depth.Depth.TheVariants as depths
 use Rattle.archive_shelf.specs.declared.fault.ReopenFault.{ReopenFault}
 use Rattle.archive_core.specs.Holdings.{Holdings, contents_of}
 use Rattle.archive_opening.specs.Counting.{HasCountsOf}
-use Rattle.archive_opening.specs.Opening.{CountsFault, IsCause, IsDamageIn, IsIn, IsOtherIn, IsOutside}
+use Rattle.archive_opening.specs.Opening.{IsDamageIn, IsOtherIn, IsOutside}
+use Rattle.archive_gathering.specs.Refusing.{CountsFault, IsCause}
+use Rattle.archive_gathering.specs.Gathering.{IsIn}
 use Rattle.archive_opening.specs.Refusing.{IsBorneOut}
 use Rattle.archive_opening.specs.Telling.{AreCheckpointsSynced, AreReadOrTold, HasCheckpointsOf, IsAskedFor, IsReadWhole}
 use Rattle.archive_core.specs.Reopening.{IsNotOpened, IsReopened}

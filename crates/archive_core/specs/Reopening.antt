@@ -17,7 +17,9 @@ use Rattle.archive_shelf.specs.declared.fault.ReopenFault.{ReopenFault}
 use Rattle.archive_volumes.specs.Held.{book_of}
 use Rattle.archive_core.specs.Finished.{AreLinedTo, HasCheckpoint}
 use Rattle.archive_core.specs.Holdings.{Holdings, contents_of}
-use Rattle.archive_opening.specs.Opening.{CountsFault, IsCause, IsDamageIn, IsIn, IsOtherIn, IsOutside}
+use Rattle.archive_opening.specs.Opening.{IsDamageIn, IsOtherIn, IsOutside}
+use Rattle.archive_gathering.specs.Refusing.{CountsFault, IsCause}
+use Rattle.archive_gathering.specs.Gathering.{IsIn}
 use Rattle.archive_opening.specs.Telling.{IsAskedFor}
 use Rattle.archive_core.specs.Shown.{numbered}
 use Rattle.archive_core.specs.Told.{told_of}

@@ -9,9 +9,9 @@ use Rattle.volume_scan.specs.declared.scanning.Scanning.{Scanning}
 use Rattle.warc_journal.specs.Extents.{texts_in, warc_files}
 use Rattle.warc_journal.specs.Journals.{Rests}
 use Rattle.archive_volumes.specs.Spots.{AreWithin}
-use Rattle.archive_opening.specs.Gathering.{IsGathered}
+use Rattle.archive_gathering.specs.Gathering.{IsGathered}
 use Rattle.archive_opening.specs.Telling.{AreReadOrTold, GoesWith, IsReadWhole, IsSettledFor, IsTold, ReadsWhole}
-use Rattle.archive_opening.specs.declared.gathered.Gathered.{Gathered}
+use Rattle.archive_gathering.specs.declared.gathered.Gathered.{Gathered}
 
 module _ {D : Type 0} (d : Ghosts D) (old : Scanning D) (disk : D) (rests : IsTrue d.tells → Rests d (disk_of old) disk) (g : Gathered) where
   abbrev lent : Scanning D

@@ -19,10 +19,11 @@ use Rattle.archive_volumes.specs.Held.{book_of}
 use Rattle.archive_opening.proofs.CountLaws.{before, behind, front, info}
 use Rattle.archive_opening.proofs.SkipLaws.{file_is, rest_is_drop}
 use Rattle.archive_opening.specs.Counting.{AreCounted, CountsOn, HasCountsOf, HasInfo}
-use Rattle.archive_opening.specs.Opening.{IsOther, IsOutside}
-use Rattle.archive_opening.specs.Refusing.{BreaksOffAt, IsBorneOut, IsCountedTo, IsUnfit, IsUnfitAt, IsUnfitGroup}
+use Rattle.archive_opening.specs.Opening.{IsOutside}
+use Rattle.archive_gathering.specs.Refusing.{IsOther, IsUnfit, IsUnfitAt, IsUnfitGroup}
+use Rattle.archive_opening.specs.Refusing.{BreaksOffAt, IsBorneOut, IsCountedTo}
 use Rattle.archive_opening.specs.Telling.{GoesWith}
-use Rattle.archive_opening.specs.declared.gathered.Gathered.{Gathered}
+use Rattle.archive_gathering.specs.declared.gathered.Gathered.{Gathered}
 
 -- nothing that the files hold is the cause
 pub outside_borne_out : (image : Image) (fault : ReopenFault) → IsOutside fault → IsBorneOut image fault

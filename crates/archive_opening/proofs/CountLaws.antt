@@ -32,13 +32,14 @@ use Rattle.warc_text.proofs.InfoLaws.{infos_are_committed}
 use Rattle.warc_text.specs.StandsFor.{commit_byte}
 use Rattle.archive_volumes.specs.Held.{book_of}
 use Rattle.archive_opening.proofs.CountedLaws.{counted_by, is_skipped, stood}
-use Rattle.archive_opening.proofs.FrontLaws.{last_with_more}
-use Rattle.archive_opening.proofs.SealedLaws.{sum_at_least, sum_with_last, with_last}
+use Rattle.archive_gathering.proofs.FrontLaws.{last_with_more}
+use Rattle.archive_gathering.proofs.SealedLaws.{sum_at_least, sum_with_last, with_last}
 use Rattle.archive_opening.proofs.SkipLaws.{file_is, rest_is_drop}
 use Rattle.archive_opening.proofs.TellLaws.{last_long, length_texts}
 use Rattle.archive_opening.specs.Counting.{AreCounted, CountsOn, CountsTo, CountsUpTo, GroupStands, HasCountOf, HasCountsOf, HasInfo, HasItsLines, InfoEndsAt, IsSoundRest, IsUntold, LastEndsAt, Reaches, StandsUpTo, last_counted}
-use Rattle.archive_opening.specs.Telling.{GoesWith, HasBegunOne, HasTakenOne, Shapes, sealed_in, step_of}
-use Rattle.archive_opening.specs.declared.gathered.Gathered.{Gathered}
+use Rattle.archive_opening.specs.Telling.{GoesWith, step_of}
+use Rattle.archive_gathering.specs.Shapes.{HasBegunOne, HasTakenOne, Shapes, sealed_in}
+use Rattle.archive_gathering.specs.declared.gathered.Gathered.{Gathered}
 
 -- ---- what begins with a committed text is neither nothing nor a tail
 

@@ -12,7 +12,7 @@ use Rattle.disk_model.specs.declared.kind.Kind.TheVariants.{Warc}
 use Rattle.volume_scan.specs.declared.position.Stage.{Stage}
 use Rattle.volume_scan.specs.declared.position.Stage.TheVariants as stages
 use Rattle.warc_text.proofs.BookLaws.{get_behind}
-use Rattle.archive_opening.proofs.StartLaws.{before_new}
+use Rattle.archive_gathering.proofs.StartLaws.{before_new}
 use Rattle.archive_opening.specs.Counting.{AreCounted, Counted, HasCountOf, Reaches, StandsUpTo}
 
 -- ---- each is counted

@@ -5,8 +5,8 @@ use Rattle.std.proofs.lemmas.Bool.{false≢true}
 use Rattle.std.proofs.lemmas.Option.{slice_get_within}
 use Rattle.capture.specs.Captures.{captures}
 use Rattle.archive_volumes.specs.declared.spot.Spot.{Spot}
-use Rattle.archive_opening.proofs.BeginLaws.{no_texts}
-use Rattle.archive_opening.proofs.StartLaws.{no_captures, none_left}
+use Rattle.archive_gathering.proofs.BeginLaws.{no_texts}
+use Rattle.archive_gathering.proofs.StartLaws.{no_captures, none_left}
 use Rattle.capture.specs.declared.book.Book.{Book}
 use Rattle.capture.specs.declared.book.Volume.{Volume}
 use Rattle.cdxj_index.specs.OfBook.{AreEntries}
@@ -32,10 +32,12 @@ use Rattle.archive_volumes.specs.Volumes.{IsMeasured}
 use Rattle.archive_opening.proofs.FollowingLaws.{rests_on}
 use Rattle.archive_opening.proofs.OpenedLaws.{rests_itself}
 use Rattle.archive_opening.proofs.TellLaws.{length_texts}
-use Rattle.archive_opening.specs.Gathering.{IsGathered, IsSteady}
-use Rattle.archive_opening.specs.Opening.{IsIn, IsOther, IsOtherIn, IsOutside}
-use Rattle.archive_opening.specs.Telling.{AreCheckpointsSynced, AreReadOrTold, HasAllOf, IsAskedFor, IsMadeUp, IsOpenedBy, IsTold}
-use Rattle.archive_opening.specs.declared.gathered.Gathered.{Gathered}
+use Rattle.archive_gathering.specs.Gathering.{IsGathered, IsIn, IsSteady}
+use Rattle.archive_opening.specs.Opening.{IsOtherIn, IsOutside}
+use Rattle.archive_gathering.specs.Refusing.{IsOther}
+use Rattle.archive_opening.specs.Telling.{AreCheckpointsSynced, AreReadOrTold, HasAllOf, IsAskedFor, IsOpenedBy, IsTold}
+use Rattle.archive_gathering.specs.Shapes.{IsMadeUp}
+use Rattle.archive_gathering.specs.declared.gathered.Gathered.{Gathered}
 use Rattle.archive_opening.specs.declared.opening.Opened.{Opened}
 
 module _ {D : Type 0} (d : Ghosts D) (known : Option Book) (s : Scanning D) (g : Gathered) (all : HasAllOf d known s g) (in_place : IsInPlace d s)

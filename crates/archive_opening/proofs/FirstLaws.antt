@@ -14,11 +14,13 @@ use Rattle.warc_journal.specs.Extents.{texts_in}
 use Rattle.warc_journal.specs.Journals.{Rests}
 use Rattle.archive_volumes.specs.Held.{book_of}
 use Rattle.archive_volumes.specs.declared.spot.Spot.{Spot}
-use Rattle.archive_opening.proofs.StartLaws.{no_captures, none_left}
+use Rattle.archive_gathering.proofs.StartLaws.{no_captures, none_left}
 use Rattle.archive_opening.proofs.TellLaws.{settled_on}
-use Rattle.archive_opening.specs.Gathering.{Follows, IsGathered}
-use Rattle.archive_opening.specs.Telling.{AreReadOrTold, GoesWith, IsAskedFor, IsMadeUp, IsReadWhole, IsSettledFor, IsTold, MayBeSettled, ReadsWhole, known_to}
-use Rattle.archive_opening.specs.declared.gathered.Gathered.{Gathered}
+use Rattle.archive_gathering.specs.Gathering.{IsGathered}
+use Rattle.archive_opening.specs.Following.{Follows}
+use Rattle.archive_opening.specs.Telling.{AreReadOrTold, GoesWith, IsAskedFor, IsReadWhole, IsSettledFor, IsTold, MayBeSettled, ReadsWhole, known_to}
+use Rattle.archive_gathering.specs.Shapes.{IsMadeUp}
+use Rattle.archive_gathering.specs.declared.gathered.Gathered.{Gathered}
 
 not_skipped : Within ≢ Skipped
 not_skipped e = cc

@@ -22,11 +22,13 @@ use Rattle.warc_scan.specs.Groups.{IsGroup}
 use Rattle.warc_scan.specs.Infos.{IsInfo}
 use Rattle.warc_scan.specs.declared.group.Group.{Group as GroupFound}
 use Rattle.archive_shelf.specs.declared.fault.ReopenFault.TheVariants as faults
-use Rattle.archive_opening.proofs.FrontLaws.{last_with_more}
-use Rattle.archive_opening.specs.Gathering.{Follows, HasAll, IsGathered, left}
+use Rattle.archive_gathering.proofs.FrontLaws.{last_with_more}
+use Rattle.archive_gathering.specs.Gathering.{IsGathered}
+use Rattle.archive_opening.specs.Following.{Follows, HasAll, left}
 use Rattle.archive_volumes.specs.Held.{book_of}
-use Rattle.archive_opening.specs.Opening.{IsDamageIn, IsDeadEnd, IsReadFrom, StandForNone}
-use Rattle.archive_opening.specs.declared.gathered.Gathered.{Gathered}
+use Rattle.archive_opening.specs.Opening.{IsDamageIn, IsReadFrom, StandForNone}
+use Rattle.archive_gathering.specs.Reading.{IsDeadEnd}
+use Rattle.archive_gathering.specs.declared.gathered.Gathered.{Gathered}
 
 other_stage : Opened ≢ Skipped
 other_stage e = cc

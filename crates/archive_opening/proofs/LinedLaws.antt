@@ -19,12 +19,13 @@ use Rattle.volume_scan.specs.declared.position.Stage.{Stage}
 use Rattle.volume_scan.specs.declared.position.Stage.TheVariants as stages
 use Rattle.volume_scan.specs.declared.scanning.Scanning.{Scanning}
 use Rattle.archive_volumes.specs.Held.{book_of}
-use Rattle.archive_opening.proofs.LineOrderLaws.{taken_as_sorted}
-use Rattle.archive_opening.proofs.SealedLaws.{sum_at_least}
+use Rattle.archive_gathering.proofs.LineOrderLaws.{taken_as_sorted}
+use Rattle.archive_gathering.proofs.SealedLaws.{sum_at_least}
 use Rattle.archive_opening.specs.Counting.{AreCounted, CountsOn, CountsUpTo, HasCountsOf, HasInfo, HasItsLines, IsToldBy, Reaches, last_counted}
-use Rattle.archive_opening.specs.Lines.{AreBehind, AreNext, AreTakable, HasMoreCaptures, IsReadOf, line_numbers}
-use Rattle.archive_opening.specs.Telling.{GoesWith, OpensAt, sealed_in}
-use Rattle.archive_opening.specs.declared.gathered.Gathered.{Gathered}
+use Rattle.archive_gathering.specs.Lines.{AreBehind, AreNext, AreTakable, HasMoreCaptures, line_numbers}
+use Rattle.archive_opening.specs.Telling.{GoesWith, IsReadOf, OpensAt}
+use Rattle.archive_gathering.specs.Shapes.{sealed_in}
+use Rattle.archive_gathering.specs.declared.gathered.Gathered.{Gathered}
 use Rattle.archive_opening.specs.declared.telling.FileLines.{FileLines}
 
 module _ {D : Type 0} (d : Ghosts D) (known : Option Book) (old : Scanning D) (was : Gathered) (goes : GoesWith d known old was) (volume : ℕ)

@@ -30,16 +30,18 @@ use Rattle.archive_shelf.specs.declared.fault.ReopenFault.{ReopenFault}
 use Rattle.archive_shelf.specs.declared.fault.ReopenFault.TheVariants as faults
 use Rattle.warc_text.specs.StandsFor.{StandsFor}
 use Rattle.archive_opening.proofs.FollowingLaws.{rests_on}
-use Rattle.archive_opening.proofs.KnownLaws.{none_made}
-use Rattle.archive_opening.proofs.RefusalLaws.{none_joined}
-use Rattle.archive_opening.specs.Gathering.{AreNamed, HasAll, IsGathered, IsNamedAs, IsOpened, IsSteady}
+use Rattle.archive_gathering.proofs.KnownLaws.{none_made}
+use Rattle.archive_gathering.proofs.RefusalLaws.{none_joined}
+use Rattle.archive_gathering.specs.Gathering.{AreNamed, IsGathered, IsIn, IsNamedAs, IsSteady}
+use Rattle.archive_opening.specs.Opening.{IsDamageIn, IsOpened, IsOtherIn, IsReadRefusal}
+use Rattle.archive_gathering.specs.Refusing.{IsCause, IsOther}
+use Rattle.archive_opening.specs.Following.{HasAll}
 use Rattle.archive_volumes.specs.Held.{book_of}
-use Rattle.archive_opening.specs.Opening.{IsCause, IsDamageIn, IsIn, IsOther, IsOtherIn, IsReadRefusal}
-use Rattle.archive_opening.specs.Reading.{IsRead}
+use Rattle.archive_gathering.specs.Reading.{IsRead}
 use Rattle.archive_volumes.proofs.SpotLaws.{within_of}
 use Rattle.archive_volumes.specs.Spots.{ArePlaced, AreSpotsOf, AreWithin, IsPlaced, IsSpotOf}
 use Rattle.archive_volumes.specs.Volumes.{IsMeasured}
-use Rattle.archive_opening.specs.declared.gathered.Gathered.{Gathered}
+use Rattle.archive_gathering.specs.declared.gathered.Gathered.{Gathered}
 use Rattle.archive_opening.specs.declared.opening.Opened.{Opened}
 use Rattle.archive_volumes.specs.declared.spot.Spot.{Spot}
 

@@ -27,14 +27,15 @@ use Rattle.archive_volumes.proofs.SpotLaws.{within_stay}
 use Rattle.archive_volumes.specs.Lines.{told_spot}
 use Rattle.archive_volumes.specs.Spots.{AreWithin, is_told_form}
 use Rattle.archive_volumes.specs.declared.spot.Spot.{Spot}
-use Rattle.archive_opening.proofs.FrontLaws.{last_with_more}
-use Rattle.archive_opening.proofs.SpottedLaws.{go_on_more}
+use Rattle.archive_gathering.proofs.FrontLaws.{last_with_more}
+use Rattle.archive_gathering.proofs.SpottedLaws.{go_on_more}
 use Rattle.archive_opening.proofs.TellLaws.{last_long, length_texts}
-use Rattle.archive_opening.specs.Gathering.{IsGathered, IsSteady}
-use Rattle.archive_opening.specs.Lines.{AreLinesIn, AreNext, ArePlacedIn, HasCome, HasMoreCaptures, IsReadOf, IsSoFar}
-use Rattle.archive_opening.specs.Reading.{Laws}
-use Rattle.archive_opening.specs.Telling.{AreReadOrTold, GoesWith, IsMadeUp, IsOfLine, IsSettledFor, IsTold, OpensAt}
-use Rattle.archive_opening.specs.declared.gathered.Gathered.{Gathered}
+use Rattle.archive_gathering.specs.Gathering.{IsGathered, IsSteady}
+use Rattle.archive_gathering.specs.Lines.{AreLinesIn, AreNext, ArePlacedIn, HasCome, HasMoreCaptures, IsSoFar}
+use Rattle.archive_opening.specs.Telling.{AreReadOrTold, GoesWith, IsOfLine, IsReadOf, IsSettledFor, IsTold, OpensAt}
+use Rattle.archive_gathering.specs.Reading.{Laws}
+use Rattle.archive_gathering.specs.Shapes.{IsMadeUp}
+use Rattle.archive_gathering.specs.declared.gathered.Gathered.{Gathered}
 use Rattle.archive_opening.specs.declared.telling.FileLines.{FileLines}
 
 -- ---- the lines, whatever is known

@@ -19,11 +19,12 @@ use Rattle.warc_scan.specs.declared.group.Group.{Group as GroupFound}
 use Rattle.archive_shelf.specs.declared.fault.ReopenFault.{ReopenFault}
 use Rattle.archive_shelf.specs.declared.fault.ReopenFault.TheVariants as faults
 use Rattle.archive_opening.proofs.FollowingLaws.{damage_of_group, damage_of_volume, fewer_group, fewer_info, follows_group, follows_info, has_all, some_texts}
-use Rattle.archive_opening.specs.Gathering.{Follows, Gathers, HasAll, IsRefused, IsRefusedAt, IsSteady, ReadsOn}
+use Rattle.archive_gathering.specs.Gathering.{Gathers, IsRefused, IsRefusedAt, IsSteady}
+use Rattle.archive_opening.specs.Following.{Follows, HasAll, ReadsOn}
 use Rattle.archive_volumes.specs.Held.{book_of}
-use Rattle.archive_opening.specs.Noting.{IsGroupAt}
+use Rattle.archive_gathering.specs.Noting.{IsGroupAt}
 use Rattle.archive_opening.specs.Opening.{IsDamage, IsDamageIn, IsReadRefusal}
-use Rattle.archive_opening.specs.declared.gathered.Gathered.{Gathered}
+use Rattle.archive_gathering.specs.declared.gathered.Gathered.{Gathered}
 
 module _ {D : Type 0} (d : Ghosts D) (old new : Scanning D) (was is : Gathered) (follows : Follows d old was) where
   -- where a group was found

@@ -33,14 +33,15 @@ use Rattle.archive_volumes.proofs.SpotLaws.{within_stay, within_with}
 use Rattle.archive_volumes.specs.Held.{book_of}
 use Rattle.archive_volumes.specs.Spots.{AreWithin, HasPlace, is_told_form}
 use Rattle.archive_volumes.specs.declared.spot.Spot.{Spot}
-use Rattle.archive_opening.proofs.BeginLaws.{go_on_push}
-use Rattle.archive_opening.proofs.FrontLaws.{last_with_more}
-use Rattle.archive_opening.proofs.SpottedLaws.{go_on_more}
-use Rattle.archive_opening.specs.Gathering.{Gathers, HasBegun, HasTaken, IsGathered, IsRefused, IsSteady, MayStand, StandsBehind}
-use Rattle.archive_opening.specs.Noting.{IsGroupAt}
+use Rattle.archive_gathering.proofs.BeginLaws.{go_on_push}
+use Rattle.archive_gathering.proofs.FrontLaws.{last_with_more}
+use Rattle.archive_gathering.proofs.SpottedLaws.{go_on_more}
+use Rattle.archive_gathering.specs.Gathering.{Gathers, HasBegun, HasTaken, IsGathered, IsRefused, IsSteady, MayStand, StandsBehind}
+use Rattle.archive_gathering.specs.Noting.{IsGroupAt}
 use Rattle.archive_opening.specs.Opening.{IsOutside}
-use Rattle.archive_opening.specs.Telling.{AreReadOrTold, GoesWith, HasAllOf, HasBegunOne, HasTakenOne, IsMadeUp, IsOfLine, IsSmall, IsSettledFor, IsTold, OpensAt, Shapes, StepsOn, step_of}
-use Rattle.archive_opening.specs.declared.gathered.Gathered.{Gathered}
+use Rattle.archive_opening.specs.Telling.{AreReadOrTold, GoesWith, HasAllOf, IsOfLine, IsSmall, IsSettledFor, IsTold, OpensAt, StepsOn, step_of}
+use Rattle.archive_gathering.specs.Shapes.{HasBegunOne, HasTakenOne, IsMadeUp, Shapes}
+use Rattle.archive_gathering.specs.declared.gathered.Gathered.{Gathered}
 
 -- ---- texts
 

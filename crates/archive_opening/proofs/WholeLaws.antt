@@ -15,10 +15,11 @@ use Rattle.archive_opening.proofs.OpenedLaws.{measured}
 use Rattle.archive_opening.proofs.StepLaws.{group_at}
 use Rattle.archive_shelf.specs.declared.fault.ReopenFault.{ReopenFault}
 use Rattle.archive_shelf.specs.declared.fault.ReopenFault.TheVariants as faults
-use Rattle.archive_opening.specs.Gathering.{Follows, Gathers, HasAll}
+use Rattle.archive_gathering.specs.Gathering.{Gathers}
+use Rattle.archive_opening.specs.Following.{Follows, HasAll}
 use Rattle.archive_opening.specs.Opening.{IsOutside, IsReadRefusal}
 use Rattle.archive_opening.specs.Telling.{IsReadWhole, ReadsWhole, ReadsWholeTo, step_of}
-use Rattle.archive_opening.specs.declared.gathered.Gathered.{Gathered}
+use Rattle.archive_gathering.specs.declared.gathered.Gathered.{Gathered}
 
 module _ {D : Type 0} (d : Ghosts D) (old new : Scanning D) (was is : Gathered) (reads : ReadsWhole d old was)
     (rests : IsTrue d.tells → Rests d (disk_of old) (disk_of new)) where

@@ -15,8 +15,8 @@ use Rattle.warc_scan.specs.Answers.{BeginsWithGroup, BeginsWithInfo}
 use Rattle.warc_scan.specs.declared.group.Group.{Group}
 use Rattle.warc_text.specs.StandsFor.{commit_byte}
 use Rattle.archive_volumes.specs.Facts.{facts_of}
-use Rattle.archive_opening.specs.Lines.{AreTakable}
-use Rattle.archive_opening.specs.Telling.{sealed_in}
+use Rattle.archive_gathering.specs.Lines.{AreTakable}
+use Rattle.archive_gathering.specs.Shapes.{sealed_in}
 use Rattle.archive_opening.specs.declared.telling.Step.{Step}
 use Rattle.archive_opening.specs.declared.telling.Step.TheVariants as steps
 

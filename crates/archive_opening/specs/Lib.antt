@@ -1,11 +1,5 @@
 pub mod Counting
-pub mod Gathering
-pub mod Lines
-pub mod Measuring
-pub mod Noting
+pub mod Following
 pub mod Opening
-pub mod Originals
-pub mod Reading
 pub mod Refusing
-pub mod Revisits
 pub mod Telling

@@ -1,15 +1,13 @@
 -- What opening an archive answers, by the files that a read gives.
-use Rattle.std.specs.Prelude.{◌≡◌, ◌≢◌, ◌⊎◌, ℕ, ◌+◌, ◌<◌, List, [], ◌∷◌, ◌++◌, length, slice_index_or, Option, Some, None, ⊤}
-use Rattle.uuid.specs.Parts.{zero_bytes}
+use Rattle.std.specs.Prelude.{◌≡◌, ◌≢◌, ◌⊎◌, ℕ, ◌+◌, ◌<◌, List, [], ◌∷◌, ◌++◌, length, slice_index_or, Option, Some, None, ⊤, Bool, IsFalse, IsTrue}
 use Rattle.capture.specs.Captures.{captures}
-use Rattle.capture.specs.Faults.{Rose}
 use Rattle.capture.specs.declared.book.Book.{Book}
 use Rattle.disk_model.specs.declared.kind.Kind.TheVariants.{Warc}
 use Rattle.volume_scan.specs.Books.{AreFronts}
 use Rattle.volume_scan.specs.Damage.{IsDamagedAt}
 use Rattle.volume_scan.specs.declared.position.Position.{Position}
-use Rattle.warc_journal.specs.Extents.{texts_in}
-use Rattle.warc_journal.specs.Texts.{with_more}
+use Rattle.warc_journal.specs.Extents.{texts_in, warc_files}
+use Rattle.warc_journal.specs.Texts.{Hold, with_more}
 use Rattle.warc_scan.specs.Groups.{IsGroup}
 use Rattle.warc_scan.specs.Infos.{IsInfo}
 use Rattle.warc_scan.specs.declared.group.Group.{Group}
@@ -18,15 +16,20 @@ use Rattle.warc_text.specs.Sound.{IsSound}
 use Rattle.warc_text.specs.StandsFor.{StandsFor}
 use Rattle.archive_shelf.specs.declared.fault.ReopenFault.{ReopenFault}
 use Rattle.archive_shelf.specs.declared.fault.ReopenFault.TheVariants as faults
-use Rattle.archive_opening.specs.Reading.{MayBe}
+use Rattle.archive_gathering.specs.Reading.{IsDeadEnd}
+use Rattle.cdxj_index.specs.OfBook.{AreEntries}
+use Rattle.disk_model.specs.Crash.{Leaves}
+use Rattle.disk_model.specs.declared.disk.Disk.{Ghosts}
+use Rattle.warc_journal.specs.Journals.{IsInStep, Rests, disk_of as disk_of_journal, texts as texts_of}
+use Rattle.archive_volumes.specs.Held.{book_of}
+use Rattle.archive_volumes.specs.Spots.{AreHeldWhole, ArePlaced, AreSpotsOf, AreWithin}
+use Rattle.archive_volumes.specs.Volumes.{IsMeasured}
+use Rattle.archive_opening.specs.declared.opening.Opened.{Opened}
+use Rattle.archive_gathering.specs.Gathering.{AreAllRead, AreNamed, IsIn, IsSteady}
 
 -- the files stand for no sound book
 abbrev pub StandForNone : List (List ℕ) → Type 0
 StandForNone files = (book : Book) → IsSound book → StandsFor files book → ⊥
-
--- no files that begin with these texts stand for a sound book that may be meant
-abbrev pub IsDeadEnd : Option Book → List (List ℕ) → Type 0
-IsDeadEnd known texts = (files : List (List ℕ)) → AreFronts texts files → (book : Book) → MayBe known book → IsSound book → StandsFor files book → ⊥
 
 -- these are all texts of a sound book, and the files begin with them
 pub record IsReadFrom (files : List (List ℕ)) (book : Book) (texts : List (List ℕ)) : Type 0 where
@@ -81,18 +84,6 @@ IsDamageIn files (faults.OtherNamespace other) = ⊤
 IsDamageIn files faults.DiskFault = ⊤
 IsDamageIn files faults.Memory = ⊤
 
--- a count of faults rises just where a disk fault is answered
-abbrev pub CountsFault : ℕ → ℕ → ReopenFault → Type 0
-CountsFault before now (faults.Damaged kind file place) = now ≡ before
-CountsFault before now (faults.OtherNamespace other) = now ≡ before
-CountsFault before now faults.DiskFault = Rose before now
-CountsFault before now faults.Memory = now ≡ before
-
--- the book has the namespace that is asked for; where none is, one without volumes has the UUID of zeros
-abbrev pub IsIn : Option (List ℕ) → Book → Type 0
-IsIn None book = book.volumes ≡ [] → book.namespace ≡ zero_bytes
-IsIn (Some namespace) book = book.namespace ≡ namespace
-
 -- another namespace than the one that is asked for is answered where the files stand for a book in it
 pub record HoldsOther (files : List (List ℕ)) (asked : Option (List ℕ)) (other : List ℕ) : Type 0 where
   pub book : Book
@@ -109,26 +100,6 @@ IsOtherIn files asked (faults.OtherNamespace other) = HoldsOther files asked oth
 IsOtherIn files asked faults.DiskFault = ⊤
 IsOtherIn files asked faults.Memory = ⊤
 
--- the fault names the book's namespace, which isn't the one that is asked for
-abbrev pub IsOther : Book → Option (List ℕ) → ReopenFault → Type 0
-IsOther book asked (faults.Damaged kind file place) = ⊥
-IsOther book None (faults.OtherNamespace other) = ⊥
-IsOther book (Some namespace) (faults.OtherNamespace other) = (book.namespace ≡ other) × (other ≢ namespace)
-IsOther book asked faults.DiskFault = ⊥
-IsOther book asked faults.Memory = ⊥
-
--- another namespace than the one that is asked for
-abbrev pub Differs : Option (List ℕ) → List ℕ → Type 0
-Differs None other = ⊥
-Differs (Some namespace) other = other ≢ namespace
-
--- whatever the disk tells: damage is that of volumes, and another namespace is answered only where one is asked for that differs
-abbrev pub IsCause : Option (List ℕ) → ReopenFault → Type 0
-IsCause asked (faults.Damaged kind file place) = kind ≡ Warc
-IsCause asked (faults.OtherNamespace other) = Differs asked other
-IsCause asked faults.DiskFault = ⊤
-IsCause asked faults.Memory = ⊤
-
 -- what reading the volumes is refused by: another namespace isn't looked for there
 abbrev pub IsReadRefusal : List (List ℕ) → ReopenFault → Type 0
 IsReadRefusal files (faults.Damaged kind file place) = IsDamageIn files (faults.Damaged kind file place)
@@ -142,3 +113,36 @@ IsOutside (faults.Damaged kind file place) = ⊥
 IsOutside (faults.OtherNamespace other) = ⊥
 IsOutside faults.DiskFault = ⊤
 IsOutside faults.Memory = ⊤
+
+-- ---- what is opened
+
+-- An archive can be made of what was opened.
+pub record IsUsable {D : Type 0} (d : Ghosts D) (told : Bool) (opened : Opened D) : Type 0 where
+  -- whatever the disk tells, what was gathered is of one book
+  pub measured : IsMeasured opened.journal (book_of opened.gathered.held)
+  pub steady : IsSteady opened.gathered
+  pub spots : AreSpotsOf (book_of opened.gathered.held) opened.gathered.spots.items
+  -- where the disk tells, each image holds the texts as far as the journal says, and what is read of each capture is within them
+  pub in_step : IsTrue d.tells → IsInStep d opened.journal
+  pub left : IsTrue d.tells → Leaves (d.images (disk_of_journal opened.journal)) (λ image. Hold (texts_of d opened.journal) (warc_files image))
+  pub within : IsTrue d.tells → AreWithin (texts_of d opened.journal) opened.gathered.spots.items
+  -- where the book is told, which is only of a disk that tells, it is sound and the texts are those of it
+  pub tells : IsTrue told → IsTrue d.tells
+  pub sound : IsTrue told → IsSound (book_of opened.gathered.held)
+  pub texts_are : IsTrue told → AreVolumeTexts (book_of opened.gathered.held) (texts_of d opened.journal)
+  pub placed : IsTrue told → ArePlaced (texts_of d opened.journal) (book_of opened.gathered.held) opened.gathered.spots.items
+  -- where it isn't told, a capture that a line alone told of counts as one that keeps its whole wire
+  pub made : IsFalse told → AreHeldWhole (book_of opened.gathered.held) opened.gathered.spots.items
+
+-- Volumes were opened, each of which was read: their book is sound and its entries were gathered. The disk holds it, where that tells, and
+-- nothing else may be left of it than before.
+pub record IsOpened {D : Type 0} (d : Ghosts D) (disk : D) (asked : Option (List ℕ)) (opened : Opened D) : Type 0 where
+  pub usable : IsUsable d d.tells opened
+  pub sound : IsSound (book_of opened.gathered.held)
+  pub entries : AreEntries (book_of opened.gathered.held) opened.gathered.entries.items
+  pub named : AreNamed opened.gathered.spots.items opened.gathered.entries.items
+  pub all_read : AreAllRead opened.gathered.spots.items
+  pub stands : IsTrue d.tells → StandsFor (warc_files (d.reading disk)) (book_of opened.gathered.held)
+  pub in_namespace : IsIn asked (book_of opened.gathered.held)
+  pub rests : IsTrue d.tells → Rests d disk (disk_of_journal opened.journal)
+  pub faults : d.faults (disk_of_journal opened.journal) ≡ d.faults disk

@@ -1,15 +1,12 @@
 -- Why files aren't opened by checkpoints, as bytes alone say: what is counted up to a place, and with what it doesn't go on there.
-use Rattle.std.specs.Prelude.{◌≡◌, ◌≢◌, ◌⊎◌, ℕ, ◌+◌, ◌^◌, ◌<◌, ◌≤◌, List, [], length, slice_get, Some, None, ⊤}
+use Rattle.std.specs.Prelude.{◌≡◌, ◌⊎◌, ℕ, ◌+◌, ◌^◌, ◌<◌, ◌≤◌, List, length, ⊤}
 use Rattle.capture.specs.Captures.{captures}
 use Rattle.capture.specs.declared.book.Book.{Book}
-use Rattle.capture.specs.declared.book.Volume.{Volume}
 use Rattle.disk_model.specs.Image.{Image, file_of}
 use Rattle.disk_model.specs.declared.kind.Kind.TheVariants.{Warc}
 use Rattle.volume_scan.specs.Damage.{IsDamagedAt}
 use Rattle.volume_scan.specs.Scannings.{LiesIn}
 use Rattle.volume_scan.specs.Unread.{unread}
-use Rattle.volume_scan.specs.declared.found.Found.{Found}
-use Rattle.volume_scan.specs.declared.found.Found.TheVariants as founds
 use Rattle.volume_scan.specs.declared.position.Position.{Position}
 use Rattle.warc_journal.specs.Extents.{warc_files}
 use Rattle.warc_journal.specs.declared.place.Place.{Place}
@@ -18,39 +15,9 @@ use Rattle.warc_scan.specs.declared.group.Group.{Group}
 use Rattle.archive_shelf.specs.declared.fault.ReopenFault.{ReopenFault}
 use Rattle.archive_shelf.specs.declared.fault.ReopenFault.TheVariants as faults
 use Rattle.archive_opening.specs.Counting.{AreCounted, CountsOn, HasCountsOf, HasInfo}
-use Rattle.archive_opening.specs.Noting.{IsPast}
+use Rattle.archive_gathering.specs.Refusing.{IsUnfitGroup, IsUnfitVolume}
 
 -- ---- what isn't gathered
-
--- a volume without a capture is the last one
-pub record HasEmptyLast (book : Book) : Type 0 where
-  pub number : ℕ
-  pub volume : Volume
-  pub last : number + 1 ≡ length book.volumes
-  pub placed : slice_get book.volumes number ≡ Some volume
-  pub none : volume.captures ≡ []
-
--- the book doesn't go on with a volume in this namespace: it has another one, or a last volume without a capture
-abbrev pub IsUnfitVolume : Book → List ℕ → Type 0
-IsUnfitVolume book namespace = (0 < length book.volumes) × ((namespace ≢ book.namespace) ⊎ HasEmptyLast book)
-
--- nor with a group of this number: it passes a bound, or refers to another capture
-abbrev pub IsUnfitGroup : ℕ → Place → Group → Type 0
-IsUnfitGroup number place group = IsPast number place group ⊎ (group.same ≢ None)
-
--- what was found at a place doesn't go on with the book
-abbrev pub IsUnfitAt : Book → Found → ℕ → ℕ → Type 0
-IsUnfitAt book (founds.Info volume namespace born) file place =
-    (file ≡ volume) × (place ≡ 0) × (volume ≡ length book.volumes → IsUnfitVolume book namespace)
-IsUnfitAt book (founds.Group at read) file place = (file ≡ at.volume) × (place ≡ at.at) × IsUnfitGroup (length (captures book)) at read.group
-IsUnfitAt book founds.End file place = ⊥
-
--- and is the cause, or there was no memory
-abbrev pub IsUnfit : Book → Found → ReopenFault → Type 0
-IsUnfit book found (faults.Damaged kind file place) = IsUnfitAt book found file place
-IsUnfit book found (faults.OtherNamespace other) = ⊥
-IsUnfit book found faults.DiskFault = ⊥
-IsUnfit book found faults.Memory = ⊤
 
 -- ---- where files break off
 

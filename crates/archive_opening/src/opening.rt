@@ -1,14 +1,16 @@
 //! Opening: the volumes on a disk are read once, and what they hold is gathered.
-ghost use Rattle.std.specs.Prelude.{◌≡◌, ◌<◌, ◌≤◌, IfErr, IfOk, IfSome, IsTrue, None, OnOk};
+ghost use Rattle.std.specs.Prelude.{◌≡◌, IfErr, IfOk, IfSome, IsTrue, None, OnOk};
 ghost use Rattle.warc_journal.specs.Extents.{warc_files};
 ghost use Rattle.warc_journal.specs.Journals.{Rests};
 ghost use Rattle.warc_text.specs.Ids.{IsUuid};
 ghost use Rattle.volume_scan.specs.Scannings.{IsInPlace, disk_of, files_in, position_of};
 ghost use Rattle.volume_scan.specs.declared.position.Stage.TheVariants.{Done as IsDone};
-ghost use Rattle.archive_opening.specs.Gathering.{Follows, HasAll, IsOpened, IsSteady, ReadsOn};
-ghost use Rattle.archive_opening.specs.Opening.{CountsFault, IsCause, IsDamageIn, IsOtherIn, IsReadRefusal};
+ghost use Rattle.archive_gathering.specs.Gathering.{IsSteady};
+ghost use Rattle.archive_opening.specs.Opening.{IsDamageIn, IsOpened, IsOtherIn, IsReadRefusal};
+ghost use Rattle.archive_gathering.specs.Refusing.{CountsFault, IsCause};
+ghost use Rattle.archive_opening.specs.Following.{Follows, HasAll, ReadsOn};
 
-use crate::gathered::{Gathered, damaged};
+use archive_gathering::{Gathered, damaged};
 use archive_shelf::ReopenFault;
 use disk_model::Disk;
 use std::alloc::Global;

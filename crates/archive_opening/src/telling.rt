@@ -1,7 +1,6 @@
 //! Opening by checkpoints: a volume behind which another one stands isn't read past its warcinfo, where a finished checkpoint tells of its
 //! captures.
-ghost use Rattle.std.specs.Prelude.{◌≡◌, ◌+◌, ◌<◌, ◌≤◌, ◌^◌, ⊤, IfErr, IfNone, IfOk, IfSome, IsTrue, None, OnOk, Option, length};
-ghost use Rattle.capture.specs.declared.book.Book.{Book as BookValue};
+ghost use Rattle.std.specs.Prelude.{◌≡◌, ◌+◌, ◌<◌, ◌≤◌, IfErr, IfNone, IfOk, IfSome, IsTrue, None, OnOk, Option, length};
 ghost use Rattle.warc_journal.specs.Extents.{warc_files};
 ghost use Rattle.warc_journal.specs.Journals.{Rests, disk_of as disk_of_journal, last_len};
 ghost use Rattle.volume_scan.specs.Scannings.{IsInPlace, disk_of, file_count, files_in, position_of};
@@ -11,19 +10,17 @@ ghost use Rattle.checkpoint.specs.Checkpoints.{AreLinesFor, IsCheckpoint, checkp
 ghost use Rattle.checkpoint.specs.Reading.{IsNoCheckpoint};
 ghost use Rattle.warc_text.specs.Ids.{IsUuid};
 ghost use Rattle.archive_opening.specs.Counting.{CountsOn, CountsOnTo, CountsTo, CountsUpTo, HasCountsOf, LastEndsAt};
-ghost use Rattle.archive_opening.specs.Lines.{FitsVolume, IsReadOf};
-ghost use Rattle.archive_opening.specs.Gathering.{HasAll, IsOpened, IsSteady, left};
+ghost use Rattle.archive_opening.specs.Telling.{AreCheckpointsSynced, FitsVolume, GoesWith, HasAllOf, IsAskedFor, IsKnownRefusal, IsOpenedBy, IsReadOf, IsReadWhole, IsSmall, MayBeSettled, OpensAt, ReadsWhole, ReadsWholeOn, ReadsWholeTo, StepsOn, TellsOn, known_to, step_of};
+ghost use Rattle.archive_gathering.specs.Gathering.{IsSteady};
+ghost use Rattle.archive_opening.specs.Opening.{IsDamageIn, IsOpened, IsOtherIn, IsOutside, IsReadRefusal};
+ghost use Rattle.archive_gathering.specs.Refusing.{CountsFault, IsCause};
+ghost use Rattle.archive_opening.specs.Following.{HasAll, left};
 ghost use Rattle.archive_volumes.specs.Held.{book_of};
-ghost use Rattle.archive_opening.specs.Opening.{CountsFault, IsCause, IsDamageIn, IsOtherIn, IsOutside, IsReadRefusal};
 ghost use Rattle.archive_opening.specs.Refusing.{IsBorneOut};
-ghost use Rattle.archive_opening.specs.Telling.{AreCheckpointsSynced, GoesWith, HasAllOf, IsAskedFor, IsKnownRefusal, IsOpenedBy, IsReadWhole, IsSmall, MayBeSettled, OpensAt, ReadsWhole, ReadsWholeOn, ReadsWholeTo, StepsOn, TellsOn, known_to, step_of};
 
-use crate::gathered::{Gathered, damaged};
-use crate::laws::reading_laws;
-use crate::lines::{are_next, by_number};
-use crate::noting::TEXT_BOUND;
 use crate::opening::Opened;
 use crate::starting::start;
+use archive_gathering::{Gathered, TEXT_BOUND, are_next, by_number, damaged, reading_laws};
 use archive_shelf::ReopenFault;
 use capture::{Book, Memory};
 use cdxj_line::Line;

@@ -13,7 +13,7 @@ use Rattle.capture.proofs.GrowthLaws.{growth_keeps_captures}
 use Rattle.capture.proofs.PayloadLaws.{captures_have_one}
 use Rattle.warc_text.specs.References.{Reference, reference_of, reference_to}
 use Rattle.warc_text.specs.declared.same_of.SameOf.{SameOf}
-use Rattle.archive_opening.specs.Revisits.{IsOriginalOf}
+use Rattle.archive_gathering.specs.Revisits.{IsOriginalOf}
 use Rattle.capture.specs.declared.book.Book.{Book}
 use Rattle.capture.specs.declared.captured.Stored.{Stored}
 use Rattle.warc_text.specs.Books.{AreVolumeTexts, IsGroupText, RefersBy, same_of}
@@ -25,8 +25,8 @@ use Rattle.warc_scan.specs.Groups.{IsGroup, reference_in}
 use Rattle.warc_scan.specs.declared.group.Group.{Group}
 use Rattle.volume_scan.proofs.FoundGroups.{group_found, group_is_found, revisited_of}
 use Rattle.archive_pieces.specs.NextPieces.{Takes}
-use Rattle.archive_opening.proofs.FrontLaws.{last_with_more}
-use Rattle.archive_opening.proofs.RevisitLaws as revisits
+use Rattle.archive_gathering.proofs.FrontLaws.{last_with_more}
+use Rattle.archive_gathering.proofs.RevisitLaws as revisits
 use Rattle.archive_pieces.specs.PieceParts.{HasNoParts, IsNoPiece, IsReadAs, room_by}
 use Rattle.archive_pieces.proofs.NextFronts.{front_by, group_is_short}
 use Rattle.archive_pieces.proofs.NextPiece.{IsNext, next_of}

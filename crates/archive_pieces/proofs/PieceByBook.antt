@@ -11,8 +11,8 @@ use Rattle.warc_text.proofs.InfoLaws.{info_front}
 use Rattle.warc_scan.specs.Groups.{IsGroup}
 use Rattle.warc_scan.specs.declared.group.Group.{Group}
 use Rattle.archive_volumes.specs.Held.{is_filled}
-use Rattle.archive_opening.proofs.BeginLaws.{empty_by}
-use Rattle.archive_opening.specs.Refusing.{HasEmptyLast}
+use Rattle.archive_gathering.proofs.BeginLaws.{empty_by}
+use Rattle.archive_gathering.specs.Refusing.{HasEmptyLast}
 use Rattle.archive_pieces.specs.NextPieces.{IsOfEmpty, MayBegin}
 use Rattle.archive_pieces.specs.PieceParts.{HasNoParts, IsBegunBy, IsNoGroup, IsNotBegun, IsReadAs}
 use Rattle.archive_pieces.specs.declared.parts.Begun.{Begun}

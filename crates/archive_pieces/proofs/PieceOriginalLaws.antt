@@ -27,8 +27,8 @@ use Rattle.warc_scan.specs.declared.group.Group.{Group}
 use Rattle.warc_scan.specs.declared.group.Revisited.{Revisited}
 use Rattle.volume_scan.proofs.FoundGroups.{group_found, group_is_found, kept_found, revisited_of}
 use Rattle.archive_shelf.specs.Comparing.{KeepsWire}
-use Rattle.archive_opening.proofs.RevisitLaws as revisits
-use Rattle.archive_opening.specs.Revisits.{IsOriginalOf, RefersToNone}
+use Rattle.archive_gathering.proofs.RevisitLaws as revisits
+use Rattle.archive_gathering.specs.Revisits.{IsOriginalOf, RefersToNone}
 use Rattle.archive_reading.proofs.BringLaws.{damaged}
 use Rattle.archive_payloads.proofs.ChooseLaws.{may_be, there_is, whole_number}
 use Rattle.archive_reading.proofs.DecodeLaws.{one_framing}

@@ -23,8 +23,8 @@ use Rattle.archive_shelf.proofs.StoringLaws.{capture_grows, captures_more, captu
 use Rattle.archive_shelf.specs.Gaining.{CapturesAddTheirGroup, VolumesAddTheirText}
 use Rattle.archive_shelf.specs.Pieces.{IsFirstOf, IsFront, IsSomePiece}
 use Rattle.archive_shelf.specs.Storing.{add_to_last, new_volume, with_capture, with_volume}
-use Rattle.archive_opening.specs.Noting.{referring}
-use Rattle.archive_opening.specs.Revisits.{RefersToNone}
+use Rattle.archive_gathering.specs.Noting.{referring}
+use Rattle.archive_gathering.specs.Revisits.{RefersToNone}
 use Rattle.archive_volumes.specs.Held.{is_filled}
 use Rattle.archive_pieces.specs.NextPieces.{IsFrontBy, Takes}
 use Rattle.archive_pieces.specs.PieceParts.{IsNoPiece, IsReadAs, book_by, room_by}

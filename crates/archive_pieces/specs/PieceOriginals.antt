@@ -10,7 +10,7 @@ use Rattle.warc_scan.specs.declared.group.Group.{Group}
 use Rattle.warc_scan.specs.declared.group.Revisited.{Revisited}
 use Rattle.archive_shelf.specs.Answers.{IsDamaged}
 use Rattle.archive_shelf.specs.Comparing.{KeepsWire}
-use Rattle.archive_opening.specs.Revisits.{IsOriginalOf, RefersToNone}
+use Rattle.archive_gathering.specs.Revisits.{IsOriginalOf, RefersToNone}
 use Rattle.archive_reading.specs.Decoding.{TellsFraming}
 use Rattle.archive_reading.specs.declared.kept_group.KeptGroup.{KeptGroup}
 use Rattle.archive_reading.specs.declared.kept_group.KeptGroup.TheVariants as kept_groups

@@ -7,7 +7,7 @@ use Rattle.warc_scan.specs.Groups.{IsGroup}
 use Rattle.warc_scan.specs.declared.group.Group.{Group}
 use Rattle.warc_text.specs.Records.{info_text}
 use Rattle.archive_shelf.specs.Storing.{with_capture, with_volume}
-use Rattle.archive_opening.specs.Noting.{referring}
+use Rattle.archive_gathering.specs.Noting.{referring}
 use Rattle.archive_pieces.specs.NextPieces.{IsFrontBy, Takes}
 use Rattle.archive_pieces.specs.declared.parts.Begun.{Begun}
 use Rattle.archive_pieces.specs.declared.parts.Found.{Found}

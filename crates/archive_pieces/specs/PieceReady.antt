@@ -5,7 +5,7 @@ use Rattle.time_text.specs.Texts.{InRange}
 use Rattle.warc_journal.specs.Journals.{last_len}
 use Rattle.warc_scan.specs.declared.group.Group.{Group}
 use Rattle.warc_text.specs.Records.{info_text}
-use Rattle.archive_opening.specs.Noting.{referring}
+use Rattle.archive_gathering.specs.Noting.{referring}
 use Rattle.archive_volumes.specs.Held.{book_of, stored_in}
 use Rattle.archive_volumes.specs.Spots.{spot_of}
 use Rattle.archive_volumes.specs.Writing.{HasRoomFor, end_with, with_prepared}

@@ -1,7 +1,7 @@
 //! A piece that is ready to be written, with all memory that this takes.
 ghost use Rattle.std.specs.Prelude.{◌≡◌, ◌+◌, ◌-◌, ◌^◌, ◌<◌, IfOk, IsFalse, IsTrue, length};
 ghost use Rattle.capture.specs.Captures.{captures};
-ghost use Rattle.archive_opening.specs.Noting.{referring};
+ghost use Rattle.archive_gathering.specs.Noting.{referring};
 ghost use Rattle.archive_volumes.specs.Held.{book_of};
 ghost use Rattle.archive_volumes.specs.Volumes.{IsMeasured};
 ghost use Rattle.archive_pieces.specs.PieceReady.{IsPastBounds, IsReadyGroup, IsWithinBounds, MakesRoom, MayHold, end_by};

@@ -10,7 +10,7 @@ use Rattle.archive_core.specs.Settling.{KeepsSettled, SettlesOn, reach}
 use Rattle.archive_core.specs.steps.Supplying.{OpensNoMore, shelved_as}
 use Rattle.archive_volumes.specs.Spots.{AreSpotsOf}
 use Rattle.archive_volumes.specs.Volumes.{OpensNear, crash_of, muted}
-use Rattle.archive_opening.specs.Opening.{IsIn}
+use Rattle.archive_gathering.specs.Gathering.{IsIn}
 use Rattle.archive_opening.specs.Telling.{HasCheckpointsOf, MayBeSettled}
 use Rattle.archive_shelf.specs.Contents.{Contents, IsConsistent}
 use Rattle.archive_shelf.specs.Openings.{ImageStandsFor, SameBook}

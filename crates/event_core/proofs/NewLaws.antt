@@ -6,7 +6,7 @@ use Rattle.disk_model.specs.Image.{file_of, files_of, no_files}
 use Rattle.warc_text.specs.Ids.{IsUuid}
 use Rattle.archive_shelf.specs.Openings.{ImageStandsFor}
 use Rattle.archive_shelf.specs.Storing.{empty_book}
-use Rattle.archive_opening.proofs.ReadingLaws.{nothing_read}
+use Rattle.archive_gathering.proofs.ReadingLaws.{nothing_read}
 use Rattle.archive_opening.specs.Telling.{HasCheckpointsOf}
 use Rattle.event_core.specs.Running.{NewDisksStart}
 

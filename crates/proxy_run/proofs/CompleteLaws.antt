@@ -1,7 +1,8 @@
 -- A run over a disk that is ready isn't refused.
 use Rattle.std.proofs.Common.{◌≡◌, ◌≢◌, ◌⊎◌, ℕ, ◌-◌, ◌^◌, ◌<◌, ◌≤◌, Bool, true, true≢false, IsTrue, List, length, Option, Some, None, Result, Ok, Err, refl, sym, ap, subst, ◌∙◌, inl, inr, ⊎_elim, arith}
 use Rattle.std.specs.Prelude.{IfSome, ⊤, MatchResult}
-use Rattle.archive_opening.specs.Opening.{CountsFault, HoldsOther, IsDamageIn, IsOtherIn, IsOutside}
+use Rattle.archive_opening.specs.Opening.{HoldsOther, IsDamageIn, IsOtherIn, IsOutside}
+use Rattle.archive_gathering.specs.Refusing.{CountsFault}
 use Rattle.archive_core.proofs.FinishedLaws.{checkpoints_later, same_checkpoints_of}
 use Rattle.archive_core.specs.Finished.{FirstAreFinished}
 use Rattle.archive_core.specs.Holdings.{Holdings, contents_of}

@@ -3,7 +3,7 @@ use Rattle.std.specs.Prelude.{◌≡◌, ◌≢◌, ◌⊎◌, ℕ, ◌-◌, ◌
 use Rattle.archive_core.specs.Finished.{FirstAreFinished}
 use Rattle.archive_core.specs.Holdings.{Holdings, contents_of}
 use Rattle.archive_core.specs.Known.{told_at}
-use Rattle.archive_opening.specs.Opening.{IsIn}
+use Rattle.archive_gathering.specs.Gathering.{IsIn}
 use Rattle.archive_opening.specs.Telling.{IsAskedFor, IsSettledFor}
 use Rattle.archive_shelf.specs.Openings.{HasIds, ImageStandsFor, IsNext, Moves}
 use Rattle.archive_volumes.specs.Volumes.{crash_of, muted}

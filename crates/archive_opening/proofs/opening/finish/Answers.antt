@@ -1,10 +1,10 @@
 use Rattle.std.proofs.Common.{rules, ◌≡◌, List, ℕ, length, sym, ap, subst, arith}
 use Rattle.std.specs.Prelude.{None}
 use Rattle.warc_journal.specs.declared.extent.Extent.{Extent}
-use Rattle.archive_opening.proofs.BeginLaws.{no_texts}
+use Rattle.archive_gathering.proofs.BeginLaws.{no_texts}
 use Rattle.archive_opening.proofs.OpenedLaws.{cause_other, opened_by, some_volumes}
 use Rattle.archive_volumes.specs.Held.{book_of}
-use Rattle.archive_opening.specs.Gathering.{IsGathered}
+use Rattle.archive_gathering.specs.Gathering.{IsGathered}
 use Rattle.archive_opening.proofs.opening.finish.Goals as goal
 
 pub returns-then-volumes-eq0-clause-opened : goal.returns-then-volumes-eq0-clause-opened

@@ -1,7 +1,8 @@
 use Rattle.std.proofs.Common.{◌≡◌, IsTrue}
 use Rattle.volume_scan.specs.Scannings.{IsInPlace, disk_of}
 use Rattle.warc_journal.specs.Journals.{Rests}
-use Rattle.archive_opening.specs.Gathering.{Follows, IsSteady, left}
+use Rattle.archive_gathering.specs.Gathering.{IsSteady}
+use Rattle.archive_opening.specs.Following.{Follows, left}
 use Rattle.archive_opening.proofs.opening.read_all.Given as goal
 
 abbrev pub invariant-steps : goal.invariant-steps

@@ -5,7 +5,8 @@ use Rattle.volume_scan.specs.Scannings.{disk_of, files_in}
 use Rattle.archive_shelf.specs.declared.fault.ReopenFault.{ReopenFault}
 use Rattle.archive_opening.proofs.FollowingLaws.{damage_of_scan}
 use Rattle.archive_opening.proofs.StepLaws.{damage_by, reads_by}
-use Rattle.archive_opening.specs.Opening.{CountsFault, IsReadRefusal}
+use Rattle.archive_opening.specs.Opening.{IsReadRefusal}
+use Rattle.archive_gathering.specs.Refusing.{CountsFault}
 use Rattle.archive_opening.proofs.opening.read_one.Goals as goal
 
 pub returns-in-Ok-clause-reads : goal.returns-in-Ok-clause-reads

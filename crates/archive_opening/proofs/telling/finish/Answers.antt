@@ -3,14 +3,14 @@ use Rattle.archive_volumes.specs.Held.{book_of}
 use Rattle.std.specs.Prelude.{None}
 use Rattle.warc_journal.specs.Journals.{last_len}
 use Rattle.warc_journal.specs.declared.extent.Extent.{Extent}
-use Rattle.archive_opening.proofs.BeginLaws.{no_texts}
+use Rattle.archive_gathering.proofs.BeginLaws.{no_texts}
 use Rattle.archive_opening.proofs.EndLaws.{opened_empty, opened_told, other_isnt_known, some_volumes_told}
 use Rattle.volume_scan.specs.Scannings.{disk_of}
 use Rattle.archive_opening.specs.Counting.{LastEndsAt}
 use Rattle.archive_opening.proofs.LinedLaws.{counts_none}
 use Rattle.archive_opening.proofs.OpenedLaws.{cause_other, opened_by}
 use Rattle.archive_opening.proofs.WholeLaws.{short_whole}
-use Rattle.archive_opening.specs.Gathering.{IsGathered}
+use Rattle.archive_gathering.specs.Gathering.{IsGathered}
 use Rattle.archive_opening.proofs.BorneOutLaws.{long_borne_out, long_file, other_borne_out}
 use Rattle.archive_opening.proofs.telling.finish.Goals as goal
 

@@ -3,7 +3,8 @@ use Rattle.volume_scan.specs.Scannings.{IsInPlace, disk_of, position_of}
 use Rattle.archive_volumes.specs.Held.{book_of}
 use Rattle.warc_journal.specs.Journals.{Rests}
 use Rattle.archive_opening.specs.Counting.{CountsOn}
-use Rattle.archive_opening.specs.Gathering.{IsSteady, left}
+use Rattle.archive_gathering.specs.Gathering.{IsSteady}
+use Rattle.archive_opening.specs.Following.{left}
 use Rattle.archive_opening.specs.Telling.{GoesWith, ReadsWhole}
 use Rattle.archive_opening.proofs.telling.read_each.Given as goal
 

@@ -6,7 +6,8 @@ use Rattle.archive_volumes.specs.Held.{book_of}
 use Rattle.archive_opening.specs.Counting.{CountsTo}
 use Rattle.archive_opening.proofs.CountLaws.{counts_by}
 use Rattle.archive_shelf.specs.declared.fault.ReopenFault.{ReopenFault}
-use Rattle.archive_opening.specs.Opening.{CountsFault, IsOutside, IsReadRefusal}
+use Rattle.archive_opening.specs.Opening.{IsOutside, IsReadRefusal}
+use Rattle.archive_gathering.specs.Refusing.{CountsFault}
 use Rattle.archive_opening.specs.Refusing.{IsBorneOut}
 use Rattle.archive_opening.specs.Telling.{IsKnownRefusal, IsTold, ReadsWholeTo, StepsOn}
 use Rattle.archive_opening.proofs.FollowingLaws.{damage_of_scan}

@@ -8,7 +8,7 @@ use Rattle.volume_scan.specs.declared.position.Position.{Position}
 use Rattle.volume_scan.specs.declared.position.Stage.TheVariants.{Skipped}
 use Rattle.archive_volumes.specs.Held.{book_of}
 use Rattle.archive_opening.specs.Counting.{CountsOn}
-use Rattle.archive_opening.specs.Lines.{AreBehind, AreNext}
+use Rattle.archive_gathering.specs.Lines.{AreBehind, AreNext}
 use Rattle.archive_opening.proofs.LinedLaws.{counts_lined, read_unfit}
 use Rattle.archive_opening.proofs.SkipLaws.{few_next, goes_skipped, length_moved}
 use Rattle.archive_opening.proofs.telling.take_lines.Given.{Over}

@@ -1,7 +1,7 @@
 use Rattle.std.proofs.Common.{◌+◌, ◌<◌, length, subst, arith}
 use Rattle.volume_scan.specs.Scannings.{disk_of}
 use Rattle.warc_journal.specs.Extents.{warc_files}
-use Rattle.archive_opening.specs.Lines.{IsReadOf}
+use Rattle.archive_opening.specs.Telling.{IsReadOf}
 use Rattle.archive_opening.proofs.BesideLaws.{goes_beside, rests_lent, whole_beside}
 use Rattle.archive_opening.proofs.telling.tell_volume.Goals as goal
 

@@ -4,7 +4,7 @@ use Rattle.capture.specs.Captures.{captures}
 use Rattle.capture.specs.declared.book.Book.{Book}
 use Rattle.archive_reading.proofs.BringLaws.{readable_on, reads_then}
 use Rattle.archive_volumes.specs.Held.{book_of}
-use Rattle.archive_opening.specs.Revisits.{IsOriginalOf}
+use Rattle.archive_gathering.specs.Revisits.{IsOriginalOf}
 use Rattle.archive_pieces.specs.PieceOriginals.{AsksOriginal}
 use Rattle.archive_pieces.proofs.PieceOriginalLaws.{fault_exit, found_by, none_more}
 use Rattle.archive_pieces.proofs.original.first_original.Goals as goal

@@ -1,6 +1,6 @@
 use Rattle.std.proofs.Common.{Bool, subst, sym, ◌∙◌}
 use Rattle.std.specs.Prelude.{IfOk}
-use Rattle.archive_opening.specs.Gathering.{IsUsable}
+use Rattle.archive_opening.specs.Opening.{IsUsable}
 use Rattle.archive_volumes.proofs.ChangeLaws.{DiskLaws}
 use Rattle.archive_core.specs.Reopening.{IsMadeOf}
 use Rattle.archive_core.proofs.KnownLaws.{basis_told, entries_told, finished_told, may_be_known, refused_told, reopened_told, usable_told}

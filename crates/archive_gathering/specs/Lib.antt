@@ -1,0 +1,9 @@
+pub mod Gathering
+pub mod Lines
+pub mod Measuring
+pub mod Noting
+pub mod Originals
+pub mod Reading
+pub mod Refusing
+pub mod Revisits
+pub mod Shapes
