@@ -1,10 +1,10 @@
 -- What was gathered goes with a scan whose disk was lent for work that only reads.
-use Rattle.std.proofs.Common.{◌≡◌, ℕ, IsTrue, List, sym, ap, subst, ◌∙◌}
+use Rattle.std.proofs.Common.{◌≡◌, ℕ, IsTrue, List, sym, ap, subst, ◌∙◌, refl}
 use Rattle.std.specs.Prelude.{IfSome, None, Option, Some}
 use Rattle.capture.specs.declared.book.Book.{Book}
 use Rattle.disk_model.specs.Image.{Image}
 use Rattle.disk_model.specs.declared.disk.Disk.{Ghosts}
-use Rattle.volume_scan.specs.Scannings.{disk_of, position_of}
+use Rattle.volume_scan.specs.Scannings.{disk_of, position_of, IsInPlace, ScansStayBesideOtherWork}
 use Rattle.volume_scan.specs.declared.scanning.Scanning.{Scanning}
 use Rattle.warc_journal.specs.Extents.{texts_in, warc_files}
 use Rattle.warc_journal.specs.Journals.{Rests}
@@ -12,6 +12,8 @@ use Rattle.archive_volumes.specs.Spots.{AreWithin}
 use Rattle.archive_gathering.specs.Gathering.{IsGathered}
 use Rattle.archive_opening.specs.Telling.{AreReadOrTold, GoesWith, IsReadWhole, IsSettledFor, IsTold, ReadsWhole}
 use Rattle.archive_gathering.specs.declared.gathered.Gathered.{Gathered}
+use Rattle.archive_volumes.specs.Held.{book_of}
+use Rattle.archive_opening.specs.Counting.{CountsUpTo}
 
 module _ {D : Type 0} (d : Ghosts D) (old : Scanning D) (disk : D) (rests : IsTrue d.tells → Rests d (disk_of old) disk) (g : Gathered) where
   abbrev lent : Scanning D
@@ -65,6 +67,14 @@ module _ {D : Type 0} (d : Ghosts D) (old : Scanning D) (disk : D) (rests : IsTr
           read = λ tells. ap texts_of (rests tells).read ∙ follows.read tells;
         };
       }
+
+  pub place_beside : ScansStayBesideOtherWork d → IsInPlace d old → IsInPlace d lent
+  place_beside stay at = stay old disk (λ tells. ap (λ (i : Image). warc_files i) (rests tells).read)
+      (λ tells image left. record { before = image; was = (rests tells).crash image left; same = refl }) at
+
+  pub counts_beside : (IsTrue d.tells → CountsUpTo (d.reading (disk_of old)) (position_of old) (book_of g.held)) → IsTrue d.tells
+      → CountsUpTo (d.reading disk) (position_of old) (book_of g.held)
+  counts_beside counts tells = subst (λ (i : Image). CountsUpTo i (position_of old) (book_of g.held)) (sym (rests tells).read) (counts tells)
 
 -- what is said of the disk that was lent is said of the scan's
 pub rests_lent : {D : Type 0} (d : Ghosts D) (was old new : D) → was ≡ old → (IsTrue d.tells → Rests d was new) → IsTrue d.tells → Rests d old new

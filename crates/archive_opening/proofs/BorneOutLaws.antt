@@ -1,6 +1,6 @@
 -- What isn't gone on with, as bytes bear it out.
 use Rattle.std.proofs.Common.{◌≡◌, ℕ, ◌+◌, ◌^◌, ◌<◌, ◌≤◌, IsTrue, List, [], drop, get_or, length, refl, sym, ap, subst, ◌∙◌, inl, inr, arith}
-use Rattle.std.specs.Prelude.{IfErr, IsErrAnd, Option, Some, None, Result, Ok, Err}
+use Rattle.std.specs.Prelude.{Option, Some, None}
 use Rattle.capture.specs.declared.book.Book.{Book}
 use Rattle.disk_model.specs.Image.{Image, file_of}
 use Rattle.disk_model.specs.declared.disk.Disk.{Ghosts}
@@ -31,12 +31,6 @@ outside_borne_out image (faults.Damaged kind file place) outside = absurd outsid
 outside_borne_out image (faults.OtherNamespace other) outside = absurd outside
 outside_borne_out image faults.DiskFault outside = tt
 outside_borne_out image faults.Memory outside = tt
-
--- where a `?` hands the fault out
-pub exit_borne_out : {T : Type 0} (image : Image) (fault : ReopenFault) (r : Result T ReopenFault) → IsErrAnd r (λ other. other ≡ fault) → IsBorneOut image fault
-    → IfErr r (IsBorneOut image)
-exit_borne_out image fault (Ok value) is borne_out = absurd is
-exit_borne_out image fault (Err other) is borne_out = subst (IsBorneOut image) (sym is) borne_out
 
 -- another namespace than the one that is asked for
 pub other_borne_out : (image : Image) (book : Book) (asked : Option (List ℕ)) (fault : ReopenFault) → HasCountsOf image book → 0 < length book.volumes

@@ -1,6 +1,6 @@
 -- What was read to its end is what is opened.
 use Rattle.std.proofs.Common.{◌≡◌, ◌≢◌, ℕ, zero, suc, ◌+◌, ◌^◌, ◌<◌, ◌≤◌, IsTrue, List, [], length, refl, sym, ap, subst, ◌∙◌, ⊎_elim, arith, length-append}
-use Rattle.std.specs.Prelude.{IfOk, Option, Some, None, Result, Ok, Err, slice_index_or}
+use Rattle.std.specs.Prelude.{IfOk, Option, Some, None, Result, Ok, Err, slice_index_or, IfErr, IsErrAnd}
 use Rattle.std.proofs.lemmas.Bool.{cases_lt}
 use Rattle.std.proofs.lemmas.Option.{get_or_from_slice_get, same_Some}
 use Rattle.sha1.specs.Sha1.{sha1}
@@ -33,7 +33,7 @@ use Rattle.archive_opening.proofs.FollowingLaws.{rests_on}
 use Rattle.archive_gathering.proofs.KnownLaws.{none_made}
 use Rattle.archive_gathering.proofs.RefusalLaws.{none_joined}
 use Rattle.archive_gathering.specs.Gathering.{AreNamed, IsGathered, IsIn, IsNamedAs, IsSteady}
-use Rattle.archive_opening.specs.Opening.{IsDamageIn, IsOpened, IsOtherIn, IsReadRefusal}
+use Rattle.archive_opening.specs.Opening.{IsDamageIn, IsOpened, IsOtherIn, IsReadRefusal, IsOutside}
 use Rattle.archive_gathering.specs.Refusing.{IsCause, IsOther}
 use Rattle.archive_opening.specs.Following.{HasAll}
 use Rattle.archive_volumes.specs.Held.{book_of}
@@ -193,3 +193,24 @@ cause_other book None (faults.OtherNamespace other) is = absurd is
 cause_other book (Some namespace) (faults.OtherNamespace other) is = is.1
 cause_other book asked faults.DiskFault other = absurd other
 cause_other book asked faults.Memory other = absurd other
+
+-- one that isn't in the files
+pub cause_outside : (asked : Option (List ℕ)) (fault : ReopenFault) → IsOutside fault → IsCause asked fault
+cause_outside asked (faults.Damaged kind file place) outside = absurd outside
+cause_outside asked (faults.OtherNamespace other) outside = absurd outside
+cause_outside asked faults.DiskFault outside = tt
+cause_outside asked faults.Memory outside = tt
+
+-- ---- where a fault is handed on
+
+-- by a `?`
+pub exit_by : {T : Type 0} (P : ReopenFault → Type 0) (fault : ReopenFault) (r : Result T ReopenFault) → IsErrAnd r (λ other. other ≡ fault) → P fault → IfErr r P
+exit_by P fault (Ok value) is holds = absurd is
+exit_by P fault (Err other) is holds = subst P (sym is) holds
+
+-- beside the disk, of which it tells
+pub refused_on : {D : Type 0} (d : Ghosts D) (disk mid : D) (P : Image → ReopenFault → Type 0) (result : Result (Opened D) (ReopenFault × D))
+    → (IsTrue d.tells → Rests d disk mid) → IfErr result (λ refused. IsTrue d.tells → P (d.reading mid) refused.0)
+    → IfErr result (λ refused. IsTrue d.tells → P (d.reading disk) refused.0)
+refused_on d disk mid P (Ok opened) rests is = tt
+refused_on d disk mid P (Err refused) rests is = λ tells. subst (λ (i : Image). P i refused.0) (rests tells).read (is tells)

@@ -1,6 +1,6 @@
 -- Where each volume is read whole, what was gathered follows the scan.
 use Rattle.std.proofs.Common.{◌≡◌, ℕ, ◌^◌, ◌<◌, Bool, IsTrue, List, sym, subst, ◌∙◌}
-use Rattle.std.specs.Prelude.{None}
+use Rattle.std.specs.Prelude.{None, Option, Some}
 use Rattle.disk_model.specs.Image.{Image}
 use Rattle.disk_model.specs.declared.disk.Disk.{Ghosts}
 use Rattle.volume_scan.specs.Scannings.{Finds, disk_of, position_of}
@@ -18,8 +18,9 @@ use Rattle.archive_shelf.specs.declared.fault.ReopenFault.TheVariants as faults
 use Rattle.archive_gathering.specs.Gathering.{Gathers}
 use Rattle.archive_opening.specs.Following.{Follows, HasAll}
 use Rattle.archive_opening.specs.Opening.{IsOutside, IsReadRefusal}
-use Rattle.archive_opening.specs.Telling.{IsReadWhole, ReadsWhole, ReadsWholeTo, step_of}
+use Rattle.archive_opening.specs.Telling.{IsReadWhole, ReadsWhole, ReadsWholeTo, step_of, IsKnownRefusal}
 use Rattle.archive_gathering.specs.declared.gathered.Gathered.{Gathered}
+use Rattle.capture.specs.declared.book.Book.{Book}
 
 module _ {D : Type 0} (d : Ghosts D) (old new : Scanning D) (was is : Gathered) (reads : ReadsWhole d old was)
     (rests : IsTrue d.tells → Rests d (disk_of old) (disk_of new)) where
@@ -53,3 +54,8 @@ outside_refuses files (faults.Damaged kind file place) outside = absurd outside
 outside_refuses files (faults.OtherNamespace other) outside = outside
 outside_refuses files faults.DiskFault outside = tt
 outside_refuses files faults.Memory outside = tt
+
+-- nor that of a known book
+pub outside_known : (known : Option Book) (fault : ReopenFault) → IsOutside fault → IsKnownRefusal known fault
+outside_known None fault outside = tt
+outside_known (Some book) fault outside = outside

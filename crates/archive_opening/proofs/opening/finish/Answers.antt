@@ -1,5 +1,6 @@
-use Rattle.std.proofs.Common.{rules, ◌≡◌, List, ℕ, length, sym, ap, subst, arith}
+use Rattle.std.proofs.Common.{◌≡◌, List, ℕ, length, sym, ap, subst, arith}
 use Rattle.std.specs.Prelude.{None}
+use Rattle.warc_journal.specs.Journals.{volumes}
 use Rattle.warc_journal.specs.declared.extent.Extent.{Extent}
 use Rattle.archive_gathering.proofs.BeginLaws.{no_texts}
 use Rattle.archive_opening.proofs.OpenedLaws.{cause_other, opened_by, some_volumes}
@@ -26,4 +27,4 @@ returns-in-Some-clause-cause g c = cause_other (book_of c.args.gathered.held) c.
 
 pub other_than-requires : goal.other_than-requires
 other_than-requires g c = some_volumes g.D.Disk c.args.scanning c.args.gathered c.requires.all c.finish-journal.result c.finish-journal.ensures.disk c.finish-journal.ensures.extent
-    (search rules)
+    (λ (none : volumes c.finish-journal.result ≡ 0). absurd (omega (arith, none, c.volumes.ensures, c.if-volumes-eq0.false)))
