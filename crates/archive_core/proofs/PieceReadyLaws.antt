@@ -17,7 +17,7 @@ use Rattle.capture.specs.declared.captured.Taken.{Taken}
 use Rattle.digest32.specs.Base32.{IsDigest}
 use Rattle.disk_model.specs.declared.disk.Disk.{Ghosts}
 use Rattle.time_text.specs.Texts.{InRange}
-use Rattle.warc_journal.specs.Journals.{IsInStep, texts, volumes}
+use Rattle.warc_journal.specs.Journals.{IsInStep, texts}
 use Rattle.warc_journal.specs.Texts.{with_more}
 use Rattle.warc_journal.specs.declared.place.Place.{Place}
 use Rattle.warc_text.proofs.BookLaws.{get_behind}

@@ -1,5 +1,5 @@
 -- An archive that gained a volume, and one whose captures stay.
-use Rattle.std.proofs.Common.{◌≡◌, ℕ, ◌+◌, Bool, true, false, not, nat_eq, if◌then◌else◌, IsTrue, List, [], ◌∷◌, ◌++◌, length, Result, Ok, Err, refl, sym, ap, subst, ◌∙◌, inl, append-nil, length-append, arith}
+use Rattle.std.proofs.Common.{◌≡◌, ℕ, Bool, true, false, not, nat_eq, if◌then◌else◌, IsTrue, List, [], ◌∷◌, ◌++◌, length, Result, Ok, Err, refl, sym, ap, subst, ◌∙◌, inl, append-nil, length-append, arith}
 use Rattle.std.specs.Prelude.{IsErrAnd, count_by, slice_index_or, ⊤}
 use Rattle.std.proofs.lemmas.List.{get_or_append_left}
 use Rattle.capture.specs.Captures.{captures}

@@ -1,5 +1,5 @@
 -- A line told of the next volume, or not.
-use Rattle.std.proofs.Common.{◌+◌, ◌<◌, ◌≤◌, ◌∷◌, ℕ, suc, List, length, refl, sym, subst, arith}
+use Rattle.std.proofs.Common.{◌∷◌, suc, List, refl, sym, subst, arith}
 use Rattle.std.specs.Prelude.{Contains}
 use Rattle.archive_volumes.specs.declared.spot.Spot.{Spot}
 use Rattle.archive_core.proofs.MadeLaws.{lined_next}
