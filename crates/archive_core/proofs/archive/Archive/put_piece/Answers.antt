@@ -1,4 +1,4 @@
-use Rattle.std.proofs.Common.{◌≡◌, ◌+◌, ℕ, List, length, Some, Ok, Err, refl, sym, ap, subst, ◌∙◌, arith, ◌++◌, [], ◌∷◌}
+use Rattle.std.proofs.Common.{true, ◌≡◌, ◌+◌, ℕ, List, length, Some, Ok, Err, refl, sym, ap, subst, ◌∙◌, arith, ◌++◌, [], ◌∷◌}
 use Rattle.std.specs.Prelude.{is_some}
 use Rattle.capture.specs.Captures.{captures}
 use Rattle.capture.specs.Message.{IsResponseHeadText}
@@ -7,6 +7,9 @@ use Rattle.capture.specs.declared.captured.Stored.{Stored}
 use Rattle.cdxj_index.specs.Facts.{Facts}
 use Rattle.cdxj_index.specs.Order.{without}
 use Rattle.time_text.specs.Texts.{InRange}
+use Rattle.warc_journal.specs.Journals.{disk_of}
+use Rattle.warc_journal.specs.declared.journal.Journal.{Journal}
+use Rattle.archive_shelf.specs.Answers.{CountsIf}
 use Rattle.archive_volumes.specs.Entries.{entered}
 use Rattle.archive_volumes.specs.Held.{book_of, stored_in}
 use Rattle.archive_volumes.specs.Spots.{AreHeldWhole, whole_from}
@@ -370,3 +373,14 @@ returns-in-Ok-clause-puts g c =
     (λ untold. c.commit.ensures.made (subst (λ (l : List Spot). AreHeldWhole (book_of now.held) l) (sym c.with_room.ensures.spots) (t.is.made untold)))
     c.commit.ensures.others
     (c.self.inside.revisits + c.revisits_in.result) c.in-Ok.ensures.stored has.is c.in-Ok.field-0 c.in-Ok.ensures.writes c.in-Ok.ensures.last_len c.in-Ok.ensures.bytes c.len-number.result number)
+
+pub returns-in-Ok-clause-faults : goal.returns-in-Ok-clause-faults
+returns-in-Ok-clause-faults g c =
+    c.in-Ok.ensures.faults.steady
+    ∙ ap (λ (j : Journal _). g.D.Disk.faults (disk_of j)) (c.make_piece_ready.ensures.journal ∙ ap (λ (held : Holdings _). held.journal) c.self.view_is)
+
+pub returns-in-Err-clause-faults : goal.returns-in-Err-clause-faults
+returns-in-Err-clause-faults g c =
+    subst (λ (j : Journal _). CountsIf true (g.D.Disk.faults (disk_of j)) (g.D.Disk.faults (disk_of c.commit.new.self.journal)))
+    (c.make_piece_ready.ensures.journal ∙ ap (λ (held : Holdings _). held.journal) c.self.view_is)
+    (c.in-Err.ensures.faults.later, c.in-Err.ensures.faults.rose)

@@ -1,3 +1,4 @@
+use Rattle.std.proofs.Common.{ℕ, List, length, ap, arith, length-append}
 use Rattle.archive_volumes.proofs.ChangeLaws.{DiskLaws}
 use Rattle.archive_core.proofs.PieceTakenLaws as laws
 use Rattle.archive_core.proofs.archive.Archive.take_found.Given.{Over}
@@ -16,6 +17,11 @@ returns-in_err-first g c =
     laws.fault_exit g.D.Disk c.args.self.now c.original_in.new.self c.in_err-first.ensures.looks c.args.bytes.now found.begins found.at found.group
     c.requires.read c.requires.not_full c.storing_has_a_basis.ensures c.in_err-first.ensures.was c.in_err-first.field-0.0 c.from_residual.result
     c.from_residual.ensures.1 c.in_err-first.ensures.finds c.in_err-first.ensures.faults
+
+pub split_at-requires : goal.split_at-requires
+split_at-requires g c =
+    let read = c.requires.read in
+    omega (arith, read.at_is, ap (λ (l : List ℕ). length l) read.composed, length-append read.front read.text)
 
 pub put_piece-requires-clause-not_full : goal.put_piece-requires-clause-not_full
 put_piece-requires-clause-not_full g c =
