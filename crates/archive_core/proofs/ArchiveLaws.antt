@@ -10,8 +10,8 @@ use Rattle.cdxj_index.specs.Queries.{IsIndex, with_number}
 use Rattle.disk_model.specs.declared.disk.Disk.{Ghosts}
 use Rattle.archive_shelf.specs.Answers.{ShowsNone}
 use Rattle.archive_core.specs.Holdings.{Holdings, IsArchive, contents_of}
-use Rattle.archive_core.specs.Shown.{numbered}
-use Rattle.archive_core.proofs.ShownLaws.{numbered_sorted, shown_all, shown_from}
+use Rattle.archive_index.specs.Shown.{numbered}
+use Rattle.archive_index.proofs.ShownLaws.{numbered_sorted, shown_all, shown_from}
 
 -- what is shown of the index of a book are its entries
 pub entries_shown : (book : Book) (index : List Facts) → IsIndex index → AreOf book index → AreEntries book (numbered index)

@@ -45,12 +45,12 @@ use Rattle.archive_shelf.specs.declared.receipt.Receipt.{Receipt}
 use Rattle.archive_core.specs.Basis.{StoringBasis}
 use Rattle.archive_volumes.specs.Entries.{EntersAs, IsEntryAt, entered}
 use Rattle.archive_volumes.specs.Held.{book_of, stored_in}
-use Rattle.archive_core.proofs.FinishedLaws.{ready_grows, room_grows}
-use Rattle.archive_core.specs.Finished.{FirstAreFinished}
+use Rattle.archive_settling.proofs.FinishedLaws.{ready_grows, room_grows}
+use Rattle.archive_settling.specs.Finished.{FirstAreFinished}
 use Rattle.archive_core.specs.Holdings.{AreLimits, Holdings, IsArchive, contents_of}
 use Rattle.archive_core.specs.Looking.{IsDigestOf, RefersTo}
 use Rattle.archive_volumes.specs.Ready.{CanCommit, Incoming, IsReady, record_in, spot_in}
-use Rattle.archive_core.specs.Shown.{numbered}
+use Rattle.archive_index.specs.Shown.{numbered}
 use Rattle.archive_volumes.specs.Spots.{AreHeldWhole, ArePlaced, AreSpotsOf, AreWithin, text_at, whole_from}
 use Rattle.archive_core.specs.Stores.{FillsVolumes, Stores}
 use Rattle.archive_core.specs.Told.{told_of}
@@ -67,7 +67,7 @@ use Rattle.archive_core.proofs.EnterLaws.{TellsOfCapture, known_left, known_room
 use Rattle.archive_core.proofs.FillLaws.{fills_by}
 use Rattle.archive_core.proofs.PayloadLaws.{has_one, one_payload}
 use Rattle.archive_core.proofs.ReadyLaws.{can_commit, ready_now, with_count, with_end}
-use Rattle.archive_core.proofs.ShownLaws.{numbered_with, taken_out}
+use Rattle.archive_index.proofs.ShownLaws.{numbered_with, taken_out}
 use Rattle.archive_volumes.proofs.StoreLaws.{quiet_itself, store_covered, store_kept, store_later, store_moves, store_refused}
 use Rattle.archive_core.proofs.StoredLaws.{archive_left, archive_stored}
 use Rattle.archive_volumes.proofs.TakenGroup.{IsGroupWith}

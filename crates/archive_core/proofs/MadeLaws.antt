@@ -1,11 +1,11 @@
 -- What was opened makes an archive.
-use Rattle.std.proofs.Common.{◌≡◌, ℕ, suc, ◌+◌, ◌-◌, ◌<◌, ◌≤◌, Bool, IsFalse, IsTrue, List, [], ◌∷◌, length, Some, refl, sym, ap, subst, ◌∙◌, ⊎_elim, cond, arith}
-use Rattle.std.specs.Prelude.{Contains, count_by, slice_get, true, false, if◌then◌else◌}
+use Rattle.std.proofs.Common.{◌≡◌, ℕ, suc, ◌+◌, ◌-◌, ◌<◌, ◌≤◌, Bool, IsFalse, IsTrue, List, [], ◌∷◌, length, Some, refl, sym, ap, subst, ◌∙◌, cond, arith}
+use Rattle.std.specs.Prelude.{Contains, count_by, slice_get, true, false}
 use Rattle.std.specs.List.Sorted.{IsPermutation, IsStrictlySortedBy}
 use Rattle.std.proofs.lemmas.List.Sorted.{Contains-permutation, IsPermutation-sym}
 use Rattle.std.proofs.lemmas.List.Sums.{sum_by-cons}
 use Rattle.std.proofs.lemmas.List.Elements.{All-contains}
-use Rattle.std.proofs.lemmas.Bool.{cases_lt, false≢true}
+use Rattle.std.proofs.lemmas.Bool.{false≢true}
 use Rattle.std.proofs.lemmas.Option.{same_Some, slice_get_within}
 use Rattle.capture.specs.Captures.{captures}
 use Rattle.capture.specs.declared.book.Book.{Book}
@@ -27,16 +27,16 @@ use Rattle.archive_gathering.specs.Gathering.{AreAllRead, AreNamed, GroupWasRead
 use Rattle.archive_opening.specs.Opening.{IsUsable}
 use Rattle.archive_payloads.proofs.ChooseLaws.{there_is}
 use Rattle.archive_volumes.specs.Held.{book_of}
-use Rattle.archive_core.specs.Finished.{AreLinedTo, FirstAreFinished, HasCheckpoint}
+use Rattle.archive_settling.specs.Finished.{AreLinedTo, FirstAreFinished, HasCheckpoint}
 use Rattle.archive_core.specs.Holdings.{AreLimits, IsArchive}
-use Rattle.archive_core.specs.Shown.{numbered}
-use Rattle.archive_volumes.specs.Spots.{AreHeldWhole, ArePlaced, AreSpotsOf, AreWithin, form_of, is_same_form, is_told_form}
+use Rattle.archive_index.specs.Shown.{numbered}
+use Rattle.archive_volumes.specs.Spots.{AreHeldWhole, ArePlaced, AreSpotsOf, AreWithin, form_of, is_same_form}
 use Rattle.archive_volumes.specs.Volumes.{HoldsBook, IsMeasured}
 use Rattle.archive_opening.specs.declared.opening.Opened.{Opened}
 use Rattle.archive_volumes.specs.declared.spot.Spot.{Spot}
 use Rattle.archive_gathering.specs.Shapes.{AreNumbered}
-use Rattle.archive_core.specs.Reopening.{AreFinishedAsTold, NamesCapture}
-use Rattle.archive_core.proofs.ShownLaws.{shown_from}
+use Rattle.archive_core.specs.Making.{AreFinishedAsTold, NamesCapture}
+use Rattle.archive_index.proofs.ShownLaws.{shown_from}
 use Rattle.archive_gathering.specs.declared.gathered.Gathered.{Gathered}
 
 -- ---- how many refer to an earlier one
@@ -103,20 +103,6 @@ first_told d opened journal book spots n ej eb es finished lined image left k le
     (subst (λ (b : Book). HasCheckpoint b of.spot.volume image) (sym eb)
     (finished of.spot (subst (λ (l : List Spot). Contains l of.spot) es of.one) of.told image
     (subst (λ (j : Journal _). d.images (disk_of j) image) ej left)))
-
--- a volume more of which a line told
-pub lined_next : (spots : List Spot) (n : ℕ) (spot : Spot) → Contains spots spot → (is : Bool) → (IsTrue is → (is_told_form spot.form ≡ true) × (spot.volume ≡ n))
-    → (more : ℕ) → more ≡ (if is then 1 else 0) → AreLinedTo spots n → AreLinedTo spots (n + more)
-lined_next spots n spot one true tells more is lined k less = ⊎_elim
-    (λ (before : k < n). lined k before)
-    (λ (last : n ≤ k). record {
-      spot = spot;
-      one = one;
-      told = (tells refl).0;
-      volume_is = let at = (tells refl).1 in omega (arith, at, less, is, last);
-    })
-    (cases_lt k n)
-lined_next spots n spot one false tells more is lined k less = lined k (omega (arith, less, is))
 
 -- where each capture's group was read, no line told of any
 pub none_lined : {D : Type 0} (d : Ghosts D) (opened : Opened D) → AreAllRead opened.gathered.spots.items → AreFinishedAsTold d opened

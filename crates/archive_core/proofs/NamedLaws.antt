@@ -21,9 +21,9 @@ use Rattle.archive_volumes.specs.declared.spot.Spot.{Spot}
 use Rattle.archive_volumes.specs.declared.volumes.Volumes.{Volumes}
 use Rattle.archive_gathering.proofs.TakeLaws.{get_before}
 use Rattle.archive_gathering.specs.Gathering.{AreNamed, IsNamedAs}
-use Rattle.archive_core.proofs.ShownLaws.{shown_from}
+use Rattle.archive_index.proofs.ShownLaws.{shown_from}
 use Rattle.archive_core.specs.Holdings.{Holdings, IsArchive}
-use Rattle.archive_core.specs.Shown.{numbered}
+use Rattle.archive_index.specs.Shown.{numbered}
 
 -- ---- a capture more
 
@@ -42,13 +42,6 @@ pub numbered_new : {D : Type 0} (now : Volumes D) (ready : Ready) (at : RecordAt
     (entry : Option Facts) → EntersAs (stored_in ready.stored) h at entry → IfSome entry (λ (e : Facts). e.number ≡ count)
 numbered_new now ready at n at_is count n_is h None enters = tt
 numbered_new now ready at n at_is count n_is h (Some e) enters = enters.number ∙ ap (λ (a : RecordAt). a.number) at_is ∙ n_is
-
--- it stands behind all others, where its number does
-pub behind_at : (stored : Stored) (h : ResponseHead) (at : RecordAt) (index : List Facts) (entry : Option Facts) → EntersAs stored h at entry
-    → ((other : Facts) → Contains index other → other.number < at.number)
-    → IfSome entry (λ (e : Facts). (other : Facts) → Contains index other → other.number < e.number)
-behind_at stored h at index None enters below = tt
-behind_at stored h at index (Some e) enters below = λ other has. omega (arith, below other has, enters.number)
 
 -- and that is behind those of all captures
 pub before_at : {D : Type 0} (now : Volumes D) (ready : Ready) (at : RecordAt) (n count : ℕ) → at ≡ record_in now ready n → n ≡ count → (index : List Facts)

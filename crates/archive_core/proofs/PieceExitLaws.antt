@@ -60,14 +60,14 @@ use Rattle.archive_core.specs.Holdings.{Holdings, IsArchive}
 use Rattle.archive_pieces.specs.PieceFaults.{is_take_fault}
 use Rattle.archive_pieces.specs.PieceParts.{book_by, room_by}
 use Rattle.archive_pieces.specs.PieceReady.{IsReadyGroup, IsWithinBounds, MakesRoom, MayHold, RefersSo, end_in}
-use Rattle.archive_core.specs.Shown.{numbered}
+use Rattle.archive_index.specs.Shown.{numbered}
 use Rattle.archive_core.specs.TakingPieces.{IsUntouched, Puts}
 use Rattle.archive_core.specs.Texts.{texts_room}
 use Rattle.archive_pieces.specs.declared.fault.PieceFault.{PieceFault}
 use Rattle.archive_pieces.specs.declared.fault.PieceFault.TheVariants as pieces
 use Rattle.archive_core.proofs.EnterLaws.{TellsOfCapture, known_left, known_room, known_with, known_without, tells_of_new}
 use Rattle.archive_core.proofs.ExitLaws.{back_by, entered_by, in_volumes, mine_more, same_holdings, shown_by, texts_by}
-use Rattle.archive_core.proofs.FinishedLaws.{ready_grows, room_grows}
+use Rattle.archive_settling.proofs.FinishedLaws.{ready_grows, room_grows}
 use Rattle.archive_core.proofs.PieceReadyLaws.{HasRoomBy, can_commit_piece, good_group, good_place, good_target}
 use Rattle.archive_core.proofs.ReadyLaws.{with_count, with_end}
 use Rattle.archive_core.proofs.StoredLaws.{archive_left, archive_stored}

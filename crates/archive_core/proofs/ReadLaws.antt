@@ -24,13 +24,13 @@ use Rattle.archive_volumes.proofs.WrittenLaws.{rests_itself}
 use Rattle.archive_reading.specs.Bringing.{BringsFrom, OnlyReads}
 use Rattle.archive_volumes.specs.Volumes.{CanReadBy, HoldsBook, IsMeasured, IsQuiet, muted}
 use Rattle.archive_volumes.specs.Held.{book_of}
-use Rattle.archive_core.proofs.FinishedLaws.{first_stay}
-use Rattle.archive_core.specs.Finished.{FirstAreFinished}
+use Rattle.archive_settling.proofs.FinishedLaws.{first_stay}
+use Rattle.archive_settling.specs.Finished.{FirstAreFinished}
 use Rattle.archive_core.specs.Holdings.{Holdings, IsArchive, contents_of}
 use Rattle.archive_core.specs.Looking.{OnlyLooks}
 use Rattle.archive_volumes.specs.Spots.{AreHeldWhole, ArePlaced, AreSpotsOf, AreWithin}
 use Rattle.archive_volumes.specs.declared.volumes.Volumes.{Volumes}
-use Rattle.archive_core.proofs.ShownLaws.{shown_from}
+use Rattle.archive_index.proofs.ShownLaws.{shown_from}
 use Rattle.archive_core.proofs.TellingLaws.{quiet_muted}
 use Rattle.archive_core.proofs.NamedLaws.{as_shown}
 use Rattle.archive_reading.specs.Digests.{BringsDigest}

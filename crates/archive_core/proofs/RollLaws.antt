@@ -22,7 +22,7 @@ use Rattle.archive_shelf.specs.Storing.{is_revisit, new_volume, rolled_in, with_
 use Rattle.archive_shelf.specs.declared.fault.RollFault.{RollFault}
 use Rattle.archive_shelf.specs.declared.fault.RollFault.TheVariants as rolls
 use Rattle.archive_volumes.specs.Held.{is_filled}
-use Rattle.archive_core.proofs.FinishedLaws.{first_stay, sealed_later}
+use Rattle.archive_settling.proofs.FinishedLaws.{first_stay, sealed_later}
 use Rattle.archive_core.specs.Holdings.{Holdings, IsArchive}
 use Rattle.archive_core.specs.Rolling.{MayBeRefused, Rolls, WritesNoVolume}
 use Rattle.archive_core.specs.Texts.{texts_begun}

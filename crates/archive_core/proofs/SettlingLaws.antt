@@ -13,12 +13,13 @@ use Rattle.archive_volumes.specs.Spots.{ArePlaced, AreWithin}
 use Rattle.archive_volumes.specs.Volumes.{HoldsBook, IsMeasured}
 use Rattle.archive_volumes.specs.declared.held.Held.{Held}
 use Rattle.archive_volumes.specs.declared.volumes.Volumes.{Volumes}
-use Rattle.archive_core.specs.Finished.{FirstAreFinished, HasCheckpoint}
+use Rattle.archive_settling.specs.Finished.{FirstAreFinished, HasCheckpoint}
 use Rattle.archive_core.specs.Holdings.{Holdings, IsArchive}
 use Rattle.archive_core.specs.Looking.{OnlyLooks}
-use Rattle.archive_core.specs.Settling.{HasWithout, LeavesCheckpoints, SettlesOn, reach}
-use Rattle.archive_core.specs.steps.Supplying.{GoesThrough, KeepsVolumes, KnowsMore, IsAsBefore, shelved_as}
-use Rattle.archive_core.proofs.KeepingLaws.{measured_kept, opens_told, quiet_told, texts_kept}
+use Rattle.archive_core.specs.Settling.{SettlesOn}
+use Rattle.archive_settling.specs.Settling.{HasWithout, LeavesCheckpoints, reach}
+use Rattle.archive_settling.specs.Supplying.{GoesThrough, KeepsVolumes, KnowsMore, IsAsBefore, shelved_as}
+use Rattle.archive_settling.proofs.KeepingLaws.{measured_kept, opens_told, quiet_told, texts_kept}
 
 answer : Result ℕ CheckpointFault → ℕ
 answer (Ok n) = n

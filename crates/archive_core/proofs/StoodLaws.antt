@@ -36,9 +36,10 @@ use Rattle.archive_gathering.specs.Shapes.{sealed_in}
 use Rattle.archive_opening.specs.declared.opening.Opened.{Opened}
 use Rattle.archive_core.specs.Holdings.{Holdings}
 use Rattle.archive_core.specs.Looking.{OnlyLooks}
-use Rattle.archive_core.specs.Reopening.{IsMadeOf}
-use Rattle.archive_core.specs.Settling.{SettlesOn, reach}
-use Rattle.archive_core.specs.steps.Supplying.{HasSupplied, shelved_as}
+use Rattle.archive_core.specs.Making.{IsMadeOf}
+use Rattle.archive_core.specs.Settling.{SettlesOn}
+use Rattle.archive_settling.specs.Settling.{reach}
+use Rattle.archive_settling.specs.Supplying.{HasSupplied, shelved_as}
 use Rattle.archive_core.specs.Stores.{Fills, FillsVolumes, LeavesVolumes, texts_where}
 use Rattle.archive_core.specs.Stood.{BeginWith, KeepsOn, KeepsStood, Lasts, Stood}
 use Rattle.archive_core.proofs.RollLaws.{texts_go_on, texts_stay}

@@ -17,7 +17,7 @@ use Rattle.warc_journal.specs.declared.journal.Journal.{Journal}
 use Rattle.archive_shelf.proofs.EntryLaws.{contains_entry}
 use Rattle.archive_shelf.specs.Openings.{KeepsCheckpoints}
 use Rattle.archive_shelf.specs.Storing.{is_revisit}
-use Rattle.archive_core.proofs.FinishedLaws.{first_stay, sealed_later}
+use Rattle.archive_settling.proofs.FinishedLaws.{first_stay, sealed_later}
 use Rattle.archive_core.specs.Holdings.{Holdings, IsArchive}
 use Rattle.archive_volumes.specs.Spots.{AreHeldWhole, ArePlaced, AreSpotsOf, AreWithin, whole_from}
 use Rattle.archive_volumes.specs.Volumes.{HoldsBook, IsMeasured, crash_of, muted}

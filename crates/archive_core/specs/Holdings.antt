@@ -15,8 +15,8 @@ use Rattle.warc_journal.specs.Journals.{disk_of, texts}
 use Rattle.warc_journal.specs.declared.journal.Journal.{Journal}
 use Rattle.archive_shelf.specs.Contents.{Contents}
 use Rattle.archive_shelf.specs.Storing.{is_revisit}
-use Rattle.archive_core.specs.Finished.{FirstAreFinished}
-use Rattle.archive_core.specs.Shown.{numbered}
+use Rattle.archive_settling.specs.Finished.{FirstAreFinished}
+use Rattle.archive_index.specs.Shown.{numbered}
 use Rattle.archive_volumes.specs.Spots.{AreHeldWhole, ArePlaced, AreSpotsOf, AreWithin, whole_from}
 use Rattle.archive_volumes.specs.Volumes.{HoldsBook, IsMeasured}
 use Rattle.archive_volumes.specs.declared.spot.Spot.{Spot}

@@ -1,14 +1,11 @@
 pub mod Basis
 pub mod Bringing
-pub mod Finished
 pub mod Holdings
-pub mod Known
 pub mod Looking
+pub mod Making
 pub mod Matching
-pub mod Reopening
 pub mod Rolling
 pub mod Settling
-pub mod Shown
 pub mod Stood
 pub mod Stores
 pub mod TakingPieces

@@ -25,7 +25,7 @@ use Rattle.archive_pieces.specs.NextPieces.{Takes}
 use Rattle.archive_pieces.specs.PieceFaults.{is_take_fault}
 use Rattle.archive_pieces.specs.PieceParts.{IsNoPiece, IsReadAs, book_by, room_by}
 use Rattle.archive_pieces.specs.PieceReady.{RefersSo, end_in}
-use Rattle.archive_core.specs.Shown.{numbered}
+use Rattle.archive_index.specs.Shown.{numbered}
 use Rattle.archive_core.specs.Texts.{texts_room}
 use Rattle.archive_core.specs.Told.{told_of}
 use Rattle.archive_pieces.specs.declared.fault.PieceFault.{PieceFault}

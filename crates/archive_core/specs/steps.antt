@@ -1,4 +1,2 @@
 -- What only proofs read.
-pub mod Entering
-pub mod Supplying
 pub mod Taking

@@ -7,13 +7,13 @@ ghost use Rattle.archive_shelf.specs.Answers.{ShowsNone};
 ghost use Rattle.archive_shelf.specs.Queries.{ArePicked, IsFound};
 ghost use Rattle.archive_shelf.specs.Storing.{counts_of};
 ghost use Rattle.archive_core.specs.Holdings.{contents_of};
-ghost use Rattle.archive_core.specs.Shown.{numbered};
+ghost use Rattle.archive_index.specs.Shown.{numbered};
 ghost use Rattle.archive_core.specs.Stores.{Admits};
 ghost use Rattle.archive_volumes.specs.Facts.{facts_of};
 ghost use Rattle.archive_volumes.specs.Held.{book_of};
 ghost use Rattle.archive_volumes.specs.Volumes.{OpensNear};
 
-use crate::finding;
+use archive_index::{nearest, starting, with_key};
 use archive_shelf::{Counts, Finder, StoreFault};
 use archive_volumes::{Held, Spot, VolumeFacts, Volumes};
 use capture::{Limits, Memory};
@@ -119,24 +119,24 @@ impl<D: Disk> Archive<D> {
     }
 
     /// A copy of the entry of a key that is nearest to a time.
-    pub(crate) fn nearest(&self, key: &Key, time: u64) -> Result<Option<Entry>, Memory>
+    pub fn nearest(&self, key: &Key, time: u64) -> Result<Option<Entry>, Memory>
         ensures { IfOk result (λ entry. IsFound (numbered self.now.index) key.now time entry) }
     {
-        finding::nearest(&self.index, key, time)
+        nearest(&self.index, key, time)
     }
 
     /// Copies of the entries of a key, in order of date and number.
-    pub(crate) fn entries_of(&self, alloc: Global, key: &Key) -> Result<Vec<Entry>, Memory>
+    pub fn entries_of(&self, alloc: Global, key: &Key) -> Result<Vec<Entry>, Memory>
         ensures { IfOk result (λ entries. ArePicked (λ e. bytes_eq key.now e.key) (numbered self.now.index) entries.items) }
     {
-        finding::with_key(alloc, &self.index, key)
+        with_key(alloc, &self.index, key)
     }
 
     /// Copies of the entries whose key begins with these bytes, in order of key, date and number.
-    pub(crate) fn entries_from(&self, alloc: Global, start: &Key) -> Result<Vec<Entry>, Memory>
+    pub fn entries_from(&self, alloc: Global, start: &Key) -> Result<Vec<Entry>, Memory>
         ensures { IfOk result (λ entries. ArePicked (λ e. starts_with nat_eq e.key start.now) (numbered self.now.index) entries.items) }
     {
-        finding::starting(alloc, &self.index, start)
+        starting(alloc, &self.index, start)
     }
 
     /// Refuses a capture more where there are as many as there may be.

@@ -1,6 +1,5 @@
-//! What comparing promises to those who store later, where the pieces of a source lead an archive, and what writing checkpoints keeps.
+//! What comparing promises to those who store later, and where the pieces of a source lead an archive.
 ghost use Rattle.archive_core.specs.Looking.{DigestsServe, FoundServesLater};
-ghost use Rattle.archive_core.specs.Settling.{KeepsSettled};
 ghost use Rattle.archive_core.specs.TakingPieces.{TakenPiecesLeadOn};
 
 use archive_pieces::next_pieces_lead_on;
@@ -25,9 +24,3 @@ pub fn taken_pieces_lead_on<D: Disk>()
 {
     next_pieces_lead_on();
 }
-
-/// Writing the checkpoints that are missing makes none wrong, at whatever moment a crash stops it: where the finished checkpoints of an image were those
-/// of a book's sealed volumes, so are those of each image that goes with it.
-pub fn settling_keeps_checkpoints_right()
-    ensures { KeepsSettled }
-{}

@@ -10,7 +10,7 @@ ghost use Rattle.archive_core.specs.Stores.{Stores};
 
 use crate::Archive;
 use crate::comparing::{digest_of_wire, framing_of_taken};
-use crate::index::enter_ready;
+use archive_index::enter_ready;
 use archive_shelf::{
     Looked, Receipt, StoreFault, entries_gain_what_is_stored, storing_keeps_soundness,
     texts_go_on_behind,

@@ -15,9 +15,9 @@ ghost use Rattle.archive_core.specs.TakingPieces.{Puts, TakesPiece};
 ghost use Rattle.archive_core.specs.steps.Taking.{FindsWithin, HasText, parts_as};
 
 use crate::Archive;
-use crate::index::enter_ready;
 use crate::storing::{revisits_in, storing_has_a_basis};
 use archive_gathering::reading_laws;
+use archive_index::enter_ready;
 use archive_pieces::{
     Found, PieceFault, end_of, make_piece_ready, original_of, passes_bounds, read_piece,
 };

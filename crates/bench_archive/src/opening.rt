@@ -2,6 +2,7 @@
 ghost use Rattle.std.specs.Prelude.{◌<◌, ◌^◌};
 
 use archive_core::Archive;
+use archive_reopening::reopen;
 use archive_shelf::Depth;
 use capture::Limits;
 use disk_model::MemoryDisk;
@@ -23,7 +24,7 @@ pub fn opened(
         captures: 2_000_000,
     };
     let namespace = Uuid::from_bytes([7; 16]);
-    match Archive::reopen(alloc, disk, Some(namespace), limits, depth) {
+    match reopen(alloc, disk, Some(namespace), limits, depth) {
         Ok(archive) => Ok(archive),
         Err(_) => Err(Stopped::Archive),
     }

@@ -6,6 +6,7 @@ ghost use Rattle.warc_text.specs.Ids.{IsUuid};
 
 use crate::held::Held;
 use archive_core::Archive;
+use archive_reopening::reopen;
 use archive_shelf::{Counts, Depth, ReopenFault};
 use capture::{Limits, Memory};
 use case_disk::{Outcome, after};
@@ -134,7 +135,7 @@ pub fn reopened<D: Disk>(
 ) -> (Held<D>, Result<String, Memory>)
     requires { IsOpening opening.now }
 {
-    match Archive::reopen(alloc, disk, opening.namespace, opening.limits, depth) {
+    match reopen(alloc, disk, opening.namespace, opening.limits, depth) {
         Ok(archive) => {
             let told = counts_text(alloc, archive.counts());
             (Held::Archive(archive), told)

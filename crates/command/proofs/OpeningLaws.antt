@@ -2,8 +2,8 @@
 use Rattle.std.proofs.Common.{◌≡◌, ◌⊎◌, ℕ, true, IsTrue, List, Some, None, is_some, sym, ◌∙◌, ap, inl, inr, arith}
 use Rattle.std.proofs.lemmas.Bool.{false≢true}
 use Rattle.archive_core.specs.Holdings.{Holdings, contents_of}
-use Rattle.archive_core.specs.Known.{IsNotOpenedKnown, Opening}
-use Rattle.archive_core.specs.Reopening.{IsNotOpened as IsRefused}
+use Rattle.archive_reopening.specs.Known.{IsNotOpenedKnown, Opening}
+use Rattle.archive_reopening.specs.Reopening.{IsNotOpened as IsRefused}
 use Rattle.archive_shelf.specs.Contents.{IsConsistent}
 use Rattle.archive_shelf.specs.Openings.{HasIds, ImageStandsFor, SameBook}
 use Rattle.archive_shelf.specs.declared.depth.Depth.TheVariants.{Whole}

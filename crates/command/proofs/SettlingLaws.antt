@@ -2,12 +2,13 @@
 use Rattle.std.proofs.Common.{◌-◌, ◌≡◌, ℕ, ◌≤◌, Bool, true, IsTrue, List, [], length, Option, Some, None, Result, Ok, Err, refl, sym, ap, subst, ◌∙◌, ⊎_elim, arith}
 use Rattle.std.specs.Prelude.{IfSome, OnOk}
 use Rattle.std.proofs.lemmas.Bool.{false≢true}
-use Rattle.archive_core.proofs.FinishedLaws.{same_checkpoints_of}
+use Rattle.archive_settling.proofs.FinishedLaws.{same_checkpoints_of}
 use Rattle.archive_core.specs.Holdings.{Holdings, contents_of}
-use Rattle.archive_core.specs.Known.{HasCheckpointsOfKnown, IsReopenedKnown, Opening, by_checkpoints, told_at}
-use Rattle.archive_core.specs.Finished.{FirstAreFinished}
-use Rattle.archive_core.specs.Settling.{KeepsSettled, SettlesOn, reach}
-use Rattle.archive_core.specs.steps.Supplying.{OpensNoMore, shelved_as}
+use Rattle.archive_reopening.specs.Known.{HasCheckpointsOfKnown, IsReopenedKnown, Opening, by_checkpoints, told_at}
+use Rattle.archive_settling.specs.Finished.{FirstAreFinished}
+use Rattle.archive_core.specs.Settling.{SettlesOn}
+use Rattle.archive_settling.specs.Settling.{KeepsSettled, reach}
+use Rattle.archive_settling.specs.Supplying.{OpensNoMore, shelved_as}
 use Rattle.archive_volumes.specs.Spots.{AreSpotsOf}
 use Rattle.archive_volumes.specs.Volumes.{OpensNear, crash_of, muted}
 use Rattle.archive_gathering.specs.Gathering.{IsIn}

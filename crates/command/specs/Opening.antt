@@ -1,8 +1,8 @@
 -- What opening the archive on a disk gives, and how a refusal of it is told.
 use Rattle.std.specs.Prelude.{◌≡◌, ◌⊎◌, ℕ, List}
 use Rattle.archive_core.specs.Holdings.{Holdings}
-use Rattle.archive_core.specs.Known.{IsNotOpenedKnown, IsReopenedKnown, Opening}
-use Rattle.archive_core.specs.Reopening.{IsNotOpened as IsRefused, IsReopened}
+use Rattle.archive_reopening.specs.Known.{IsNotOpenedKnown, IsReopenedKnown, Opening}
+use Rattle.archive_reopening.specs.Reopening.{IsNotOpened as IsRefused, IsReopened}
 use Rattle.archive_shelf.specs.declared.depth.Depth.TheVariants.{Whole}
 use Rattle.archive_shelf.specs.declared.fault.ReopenFault.{ReopenFault}
 use Rattle.capture.specs.declared.limits.Limits.{Limits}

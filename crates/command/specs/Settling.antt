@@ -1,7 +1,7 @@
 -- The checkpoints that are missing are written before and after a command works with its archive.
 use Rattle.std.specs.Prelude.{◌≡◌, ℕ, IsTrue, Result, Ok, Err}
 use Rattle.archive_core.specs.Holdings.{Holdings}
-use Rattle.archive_core.specs.Known.{Opening}
+use Rattle.archive_reopening.specs.Known.{Opening}
 use Rattle.archive_core.specs.Settling.{SettlesOn}
 use Rattle.archive_opening.specs.Telling.{HasCheckpointsOf}
 use Rattle.archive_shelf.specs.Openings.{ImageStandsFor}

@@ -1,7 +1,7 @@
 //! Opens the archive on a disk, and says why it isn't opened.
 ghost use Rattle.std.specs.Prelude.{◌≡◌, ◌⊎◌, IfErr, IfOk, IfSome, IsTrue, List, OnOk, ℕ};
 ghost use Rattle.archive_opening.specs.Telling.{MayBeSettled};
-ghost use Rattle.archive_core.specs.Known.{opening_of};
+ghost use Rattle.archive_reopening.specs.Known.{opening_of};
 ghost use Rattle.archive_core.specs.Stood.{KeepsOn};
 ghost use Rattle.command.specs.Opening.{IsNotOpened, IsOpened};
 ghost use Rattle.command.specs.Printing.{LacksMemory, Prints, printed_as};
@@ -12,6 +12,7 @@ use crate::printing::print_as;
 use crate::status::{Ran, Status};
 use crate::texts::fault_text;
 use archive_core::Archive;
+use archive_reopening::reopen_known;
 use archive_shelf::{Depth, ReopenFault};
 use capture::{Limits, Memory};
 use disk_model::Disk;
@@ -57,7 +58,7 @@ pub fn open<K: Known, D: Disk, O: Sink>(
     ensures refused { IfErr result (λ ran. IsNotOpened D.Disk O.Sink (opening_of disk depth asked K.book) ran.disk (printed_as out.old out.new ran.status)) }
     ensures prints_nothing { OnOk result (out.new ≡ out.old) }
 {
-    match Archive::reopen_known(alloc, disk, asked, LIMITS, depth) {
+    match reopen_known(alloc, disk, asked, LIMITS, depth) {
         Ok(archive) => Ok(archive),
         Err((fault, disk)) => Err(Ran {
             status: print_fault(alloc, out, &fault),

@@ -3,7 +3,7 @@ ghost use Rattle.std.specs.Prelude.{◌≡◌, IfErr, IfOk, IfSome, IsTrue, OnOk
 ghost use Rattle.archive_core.specs.Stood.{KeepsOn, KeepsStood, Lasts, Stood};
 ghost use Rattle.archive_opening.specs.Telling.{MayBeSettled};
 ghost use Rattle.archive_volumes.specs.Volumes.{OpensNear};
-ghost use Rattle.archive_core.specs.Known.{by_checkpoints};
+ghost use Rattle.archive_reopening.specs.Known.{by_checkpoints};
 ghost use Rattle.command.specs.Opening.{IsNotOpened};
 ghost use Rattle.command.specs.Printing.{printed_as};
 ghost use Rattle.command.specs.Settling as spec;
@@ -12,7 +12,8 @@ ghost use Rattle.warc_text.specs.Ids.{IsUuid};
 
 use crate::opening::{Known, open};
 use crate::status::{Ran, Status};
-use archive_core::{Archive, settling_keeps_checkpoints_right};
+use archive_core::Archive;
+use archive_settling::settling_keeps_checkpoints_right;
 use archive_shelf::Depth;
 use checkpoint::CheckpointFault;
 use disk_model::Disk;

@@ -2,7 +2,8 @@
 ghost use Rattle.std.specs.Prelude.{IsTrue};
 ghost use Rattle.archive_core.specs.Stood.{KeepsOn, KeepsStood, StoodOn};
 
-use archive_core::{Archive, StoodTexts};
+use archive_core::Archive;
+use archive_reopening::StoodTexts;
 use disk_model::Disk;
 use shown::{Choice, Shown};
 

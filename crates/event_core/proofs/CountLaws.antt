@@ -1,7 +1,7 @@
 -- How many of the first ones have no P.
 use Rattle.std.proofs.Common.{◌≡◌, ◌⊎◌, ℕ, zero, suc, ◌+◌, ◌<◌, ◌≤◌, refl, sym, subst, inl, inr, ⊎_elim, arith}
 use Rattle.std.proofs.lemmas.Bool.{cases_lt}
-use Rattle.archive_core.specs.Settling.{HasWithout}
+use Rattle.archive_settling.specs.Settling.{HasWithout}
 
 -- the last of them has P, or is one of those that haven't
 pub by_last : (P : ℕ → Type 0) (k n : ℕ) → HasWithout P (suc k) n

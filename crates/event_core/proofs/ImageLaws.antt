@@ -4,10 +4,10 @@ use Rattle.capture.specs.declared.book.Book.{Book}
 use Rattle.disk_model.specs.Image.{Image, file_of}
 use Rattle.warc_journal.specs.Extents.{cdxj_files}
 use Rattle.checkpoint.specs.Checkpoints.{IsCheckpoint, checkpoint_of}
-use Rattle.archive_core.proofs.FinishedLaws.{holds_finished}
-use Rattle.archive_core.specs.Finished.{HasCheckpoint}
+use Rattle.archive_settling.proofs.FinishedLaws.{holds_finished}
+use Rattle.archive_settling.specs.Finished.{HasCheckpoint}
 use Rattle.archive_opening.specs.Telling.{HasCheckpointsOf}
-use Rattle.archive_core.specs.Settling.{HasWithout}
+use Rattle.archive_settling.specs.Settling.{HasWithout}
 use Rattle.event_core.proofs.CountLaws.{same_without}
 use Rattle.event_core.specs.Machine.{sealed}
 use Rattle.event_core.specs.steps.Standing.{AreRight, HasFinished}

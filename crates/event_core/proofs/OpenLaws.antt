@@ -19,8 +19,8 @@ use Rattle.archive_shelf.specs.Told.{ShowsItsBook}
 use Rattle.archive_shelf.specs.declared.fault.ReopenFault.{ReopenFault}
 use Rattle.archive_volumes.specs.Volumes.{crash_of, muted}
 use Rattle.archive_core.specs.Holdings.{Holdings}
-use Rattle.archive_core.specs.Known.{IsNotOpenedKnown, IsReopenedKnown, by_checkpoints}
-use Rattle.archive_core.specs.Reopening.{IsReopened}
+use Rattle.archive_reopening.specs.Known.{IsNotOpenedKnown, IsReopenedKnown, by_checkpoints}
+use Rattle.archive_reopening.specs.Reopening.{IsReopened}
 use Rattle.archive_opening.specs.Telling.{MayBeSettled}
 use Rattle.archive_core.specs.Told.{told_of}
 use Rattle.event_core.proofs.ImageLaws.{count_files, finished_sealed, right_files}

@@ -13,11 +13,12 @@ use Rattle.checkpoint.specs.OfVolume.{VolumesHaveOneListOfLines}
 use Rattle.checkpoint.specs.declared.fault.CheckpointFault.{CheckpointFault}
 use Rattle.archive_shelf.specs.Openings.{IsEarlier, Keeps}
 use Rattle.archive_shelf.specs.Told.{ShowsItsBook}
-use Rattle.archive_core.specs.Finished.{HasCheckpoint, FirstAreFinished}
+use Rattle.archive_settling.specs.Finished.{HasCheckpoint, FirstAreFinished}
 use Rattle.archive_core.specs.Holdings.{Holdings}
-use Rattle.archive_core.specs.Settling.{HasWithout, KeepsSettled, SettlesOn, Shelved, reach}
+use Rattle.archive_core.specs.Settling.{SettlesOn}
+use Rattle.archive_settling.specs.Settling.{HasWithout, KeepsSettled, Shelved, reach}
 use Rattle.archive_core.specs.Told.{told_of}
-use Rattle.archive_core.specs.steps.Supplying.{HasSupplied, shelved_as}
+use Rattle.archive_settling.specs.Supplying.{HasSupplied, shelved_as}
 use Rattle.event_core.proofs.ImageLaws.{count_files, file_at, finished_of, finished_sealed, right_files, right_image}
 use Rattle.event_core.proofs.StandLaws.{kept_state}
 use Rattle.event_core.proofs.TallyLaws.{counted_may, least_may, open_tallied, open_tally, settled_tallied, settled_tally}

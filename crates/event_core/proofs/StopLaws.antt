@@ -26,8 +26,8 @@ use Rattle.archive_shelf.specs.declared.receipt.Receipt.{Receipt}
 use Rattle.archive_volumes.proofs.ChangeLaws.{DiskLaws, laws_muted, opens_now}
 use Rattle.archive_volumes.specs.Volumes.{OpensNear, crash_of, muted}
 use Rattle.archive_core.specs.Holdings.{Holdings}
-use Rattle.archive_core.specs.Known.{IsNotOpenedKnown, IsReopenedKnown, by_checkpoints}
-use Rattle.archive_core.specs.Reopening.{IsReopened}
+use Rattle.archive_reopening.specs.Known.{IsNotOpenedKnown, IsReopenedKnown, by_checkpoints}
+use Rattle.archive_reopening.specs.Reopening.{IsReopened}
 use Rattle.archive_opening.specs.Opening.{IsOutside}
 use Rattle.archive_opening.specs.Telling.{IsAskedFor, IsSettledFor}
 use Rattle.archive_core.specs.Told.{told_of}

@@ -4,8 +4,8 @@ use Rattle.capture.proofs.GrowthLaws.{growth_keeps_captures}
 use Rattle.capture.specs.Growth.{Grows}
 use Rattle.capture.specs.declared.book.Book.{Book}
 use Rattle.checkpoint.proofs.VolumeLaws.{sealed_lines_stay}
-use Rattle.archive_core.proofs.FinishedLaws.{sealed_later}
-use Rattle.archive_core.specs.Settling.{HasWithout}
+use Rattle.archive_settling.proofs.FinishedLaws.{sealed_later}
+use Rattle.archive_settling.specs.Settling.{HasWithout}
 use Rattle.event_core.proofs.CountLaws.{IsCutTo, cut_to, fewer, none_without}
 use Rattle.event_core.specs.Machine.{sealed}
 use Rattle.event_core.specs.steps.Standing.{AreRight, HasFinished, IsBound, IsTallied, MayBe, MayBeFinished, MayCount, Tally}

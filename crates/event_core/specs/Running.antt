@@ -10,10 +10,10 @@ use Rattle.warc_text.specs.Ids.{IsUuid}
 use Rattle.archive_shelf.specs.Openings.{ImageStandsFor}
 use Rattle.archive_shelf.specs.Storing.{empty_book}
 use Rattle.archive_shelf.specs.declared.fault.ReopenFault.{ReopenFault}
-use Rattle.archive_core.specs.Finished.{HasCheckpoint}
+use Rattle.archive_settling.specs.Finished.{HasCheckpoint}
 use Rattle.archive_opening.specs.Opening.{IsOutside}
 use Rattle.archive_opening.specs.Telling.{HasCheckpointsOf}
-use Rattle.archive_core.specs.Settling.{HasWithout}
+use Rattle.archive_settling.specs.Settling.{HasWithout}
 use Rattle.event_core.specs.Acknowledged.{StandFrom, acknowledged}
 use Rattle.event_core.specs.Events.{Runs}
 use Rattle.event_core.specs.Faults.{reopen_faults}

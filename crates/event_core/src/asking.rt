@@ -11,7 +11,8 @@ ghost use Rattle.event_core.specs.declared.event.Event.TheVariants as events;
 ghost use Rattle.event_core.specs.steps.Standing.{GoesOn};
 
 use crate::{EventFault, Reply};
-use archive_core::{Archive, settling_keeps_checkpoints_right};
+use archive_core::Archive;
+use archive_settling::settling_keeps_checkpoints_right;
 use archive_shelf::{Shelf, captures_are_stored_one_way};
 use capture::{Items, Taken};
 use checkpoint::volumes_have_one_list_of_lines;

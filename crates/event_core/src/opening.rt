@@ -3,9 +3,10 @@ ghost use Rattle.std.specs.Prelude.{IfErr, IfOk, Some};
 ghost use Rattle.warc_text.specs.Ids.{IsUuid};
 ghost use Rattle.archive_opening.specs.Telling.{MayBeSettled};
 ghost use Rattle.archive_core.specs.Holdings.{AreLimits};
-ghost use Rattle.archive_core.specs.Known.{IsNotOpenedKnown, IsReopenedKnown, by_checkpoints};
+ghost use Rattle.archive_reopening.specs.Known.{IsNotOpenedKnown, IsReopenedKnown, by_checkpoints};
 
 use archive_core::Archive;
+use archive_reopening::reopen_told;
 use archive_shelf::ReopenFault;
 use capture::{Book, Limits};
 use disk_model::{Disk, MemoryDisk};
@@ -36,6 +37,6 @@ impl Opening {
         ensures reopened { IfOk result (IsReopenedKnown ⟦<MemoryDisk as Disk>⟧ (by_checkpoints disk (Some self.now.namespace) known.now.value) self.now.limits) }
         ensures refused { IfErr result (IsNotOpenedKnown ⟦<MemoryDisk as Disk>⟧ disk (Some self.now.namespace) known.now.value) }
     {
-        Archive::reopen_told(alloc, disk, Some(self.namespace), self.limits, known)
+        reopen_told(alloc, disk, Some(self.namespace), self.limits, known)
     }
 }

@@ -4,8 +4,8 @@ use Rattle.std.specs.List.{flat_map}
 use Rattle.std.specs.Prelude.{⊤}
 use Rattle.archive_core.proofs.TellingLaws.{quiet_muted}
 use Rattle.archive_core.specs.Holdings.{Holdings, contents_of}
-use Rattle.archive_core.proofs.FinishedLaws.{checkpoints_later, same_checkpoints_of}
-use Rattle.archive_core.specs.Known.{IsReopenedKnown, by_checkpoints}
+use Rattle.archive_settling.proofs.FinishedLaws.{checkpoints_later, same_checkpoints_of}
+use Rattle.archive_reopening.specs.Known.{IsReopenedKnown, by_checkpoints}
 use Rattle.command.specs.Settling.{IsOf}
 use Rattle.disk_model.specs.Crash.{Leaves}
 use Rattle.warc_journal.specs.Extents.{cdxj_files}

@@ -3,7 +3,7 @@ use Rattle.std.proofs.Common.{◌≡◌, ◌⊎◌, None, subst}
 use Rattle.archive_core.specs.Holdings.{Holdings}
 use Rattle.archive_shelf.specs.Storing.{counts_of}
 use Rattle.archive_shelf.specs.declared.depth.Depth.TheVariants.{Whole}
-use Rattle.archive_core.specs.Known.{opening_of}
+use Rattle.archive_reopening.specs.Known.{opening_of}
 use Rattle.command.specs.Opening.{IsOpened}
 use Rattle.command.specs.Printing.{LacksMemory, Prints, printed_as}
 use Rattle.command.specs.Texts.{counts_text}

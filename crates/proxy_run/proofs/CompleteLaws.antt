@@ -3,11 +3,11 @@ use Rattle.std.proofs.Common.{◌≡◌, ◌≢◌, ◌⊎◌, ℕ, ◌-◌, ◌
 use Rattle.std.specs.Prelude.{IfSome, ⊤, MatchResult}
 use Rattle.archive_opening.specs.Opening.{HoldsOther, IsDamageIn, IsOtherIn, IsOutside}
 use Rattle.archive_gathering.specs.Refusing.{CountsFault}
-use Rattle.archive_core.proofs.FinishedLaws.{checkpoints_later, same_checkpoints_of}
-use Rattle.archive_core.specs.Finished.{FirstAreFinished}
+use Rattle.archive_settling.proofs.FinishedLaws.{checkpoints_later, same_checkpoints_of}
+use Rattle.archive_settling.specs.Finished.{FirstAreFinished}
 use Rattle.archive_core.specs.Holdings.{Holdings, contents_of}
-use Rattle.archive_core.specs.Known.{by_checkpoints, opening_of, told_at}
-use Rattle.archive_core.specs.Settling.{KeepsSettled}
+use Rattle.archive_reopening.specs.Known.{by_checkpoints, opening_of, told_at}
+use Rattle.archive_settling.specs.Settling.{KeepsSettled}
 use Rattle.archive_opening.specs.Telling.{HasCheckpointsOf, IsReadWhole}
 use Rattle.archive_shelf.specs.declared.depth.Depth.TheVariants.{Checkpoints, Whole}
 use Rattle.checkpoint.specs.declared.fault.CheckpointFault.{CheckpointFault}

@@ -2,11 +2,11 @@
 use Rattle.std.proofs.Common.{◌≡◌, ◌⊎◌, ℕ, Bool, IsTrue, List, [], ◌∷◌, length, Option, Err, refl, sym, subst, ◌∙◌, inl, inr, ⊎_elim, arith}
 use Rattle.std.specs.Prelude.{◌++◌, ⊤, decimal}
 use Rattle.archive_core.specs.Holdings.{Holdings}
-use Rattle.archive_core.proofs.FinishedLaws.{checkpoints_later, same_checkpoints_of}
+use Rattle.archive_settling.proofs.FinishedLaws.{checkpoints_later, same_checkpoints_of}
 use Rattle.command.specs.Settling.{IsOf}
 use Rattle.disk_model.specs.Crash.{Leaves}
 use Rattle.warc_journal.specs.Extents.{cdxj_files}
-use Rattle.archive_core.specs.Known.{by_checkpoints}
+use Rattle.archive_reopening.specs.Known.{by_checkpoints}
 use Rattle.archive_core.specs.Told.{told_of}
 use Rattle.archive_shelf.proofs.CallLaws.{no_more}
 use Rattle.archive_shelf.specs.Answers.{CountsIf}

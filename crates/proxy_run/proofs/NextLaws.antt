@@ -4,7 +4,7 @@ use Rattle.std.proofs.lemmas.Bool.{cases_lt}
 use Rattle.std.proofs.lemmas.List.{append-nil}
 use Rattle.std.proofs.lemmas.Option.{same_Some, slice_get_within}
 use Rattle.archive_shelf.proofs.StoringLaws.{captures_more, captures_stay}
-use Rattle.archive_core.proofs.FinishedLaws.{checkpoints_later, volume_at}
+use Rattle.archive_settling.proofs.FinishedLaws.{checkpoints_later, volume_at}
 use Rattle.archive_core.proofs.NextLaws.{AreEmpty, ids_like, like_by, next_grows}
 use Rattle.archive_shelf.specs.Openings.{HasIds, ImageStandsFor, IsNext, SameBook}
 use Rattle.archive_shelf.specs.Storing.{with_capture, with_volume}

@@ -2,10 +2,10 @@
 use Rattle.std.proofs.Common.{◌≡◌, ◌⊎◌, ℕ, ◌≤◌, Bool, true, IsTrue, List, Option, sym, ap, subst, ◌∙◌, inl, inr, arith}
 use Rattle.archive_core.proofs.TellingLaws.{quiet_muted}
 use Rattle.archive_core.specs.Holdings.{Holdings}
-use Rattle.archive_core.specs.Known.{by_checkpoints}
+use Rattle.archive_reopening.specs.Known.{by_checkpoints}
 use Rattle.archive_core.specs.Stood.{KeepsFinished}
 use Rattle.archive_core.specs.Told.{told_of}
-use Rattle.archive_core.specs.steps.Supplying.{OpensNoMore}
+use Rattle.archive_settling.specs.Supplying.{OpensNoMore}
 use Rattle.archive_shelf.specs.Openings.{StaysCovered}
 use Rattle.archive_shelf.specs.Told.{GoesOn}
 use Rattle.archive_shelf.specs.declared.depth.Depth.TheVariants.{Checkpoints}

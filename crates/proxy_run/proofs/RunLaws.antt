@@ -6,7 +6,7 @@ use Rattle.capture.specs.declared.site.Site.{Site}
 use Rattle.proxy_run.specs.Checks.{IsCounted}
 use Rattle.proxy_run.specs.Follows.{Follows}
 use Rattle.importing.specs.Imports.{Imports}
-use Rattle.archive_core.specs.Known.{Opening, by_checkpoints, opening_of}
+use Rattle.archive_reopening.specs.Known.{Opening, by_checkpoints, opening_of}
 use Rattle.command.specs.Objects.{Kinds, Objects, objects_of, with_one}
 use Rattle.command.specs.Opening.{IsNotOpened}
 use Rattle.proxy_run.specs.Pipes.{Pipes, Refuses}

@@ -8,12 +8,12 @@ use Rattle.std.proofs.lemmas.List.Sorted.{length_permutation}
 use Rattle.std.proofs.lemmas.List.Sums.{sum_by-cons}
 use Rattle.std.proofs.lemmas.List.{append-nil, length-append}
 use Rattle.std.proofs.lemmas.Option.{same_Some}
-use Rattle.archive_core.specs.Finished.{FirstAreFinished}
-use Rattle.archive_core.specs.Settling.{KeepsSettled}
+use Rattle.archive_settling.specs.Finished.{FirstAreFinished}
+use Rattle.archive_settling.specs.Settling.{KeepsSettled}
 use Rattle.archive_shelf.specs.Contents.{Contents}
 use Rattle.archive_shelf.specs.Openings.{ImageStandsFor, SameBook}
 use Rattle.archive_core.specs.Holdings.{Holdings, contents_of}
-use Rattle.archive_core.specs.Known.{by_checkpoints, told_at}
+use Rattle.archive_reopening.specs.Known.{by_checkpoints, told_at}
 use Rattle.archive_shelf.specs.Told.{Told}
 use Rattle.archive_shelf.specs.declared.depth.Depth.TheVariants.{Checkpoints}
 use Rattle.archive_volumes.proofs.ChangeLaws.{DiskLaws, laws_muted, opens_now}

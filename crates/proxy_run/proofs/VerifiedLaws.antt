@@ -4,7 +4,7 @@ use Rattle.std.specs.Prelude.{Bool, if◌then◌else◌, map}
 use Rattle.capture.specs.declared.book.Book.{Book}
 use Rattle.archive_volumes.specs.Facts.{facts_of}
 use Rattle.archive_volumes.specs.declared.volume_facts.VolumeFacts.{VolumeFacts}
-use Rattle.archive_core.specs.Known.{by_checkpoints}
+use Rattle.archive_reopening.specs.Known.{by_checkpoints}
 use Rattle.command.proofs.OpeningLaws.{opened_stands}
 use Rattle.command.proofs.SettlingLaws.{told_tells}
 use Rattle.proxy_run.proofs.CompleteLaws.{not_risen, printed_or_lacked, refused_known, refused_unsettled}

@@ -7,7 +7,7 @@ use Rattle.std.proofs.lemmas.List.{map-append}
 use Rattle.std.proofs.lemmas.List.Concat.{flat_map-append}
 use Rattle.std.proofs.lemmas.List.Elements.{All-append, All-cons, All-nil}
 use Rattle.archive_core.specs.Holdings.{Holdings}
-use Rattle.archive_core.specs.Known.{IsReopenedKnown, by_checkpoints}
+use Rattle.archive_reopening.specs.Known.{IsReopenedKnown, by_checkpoints}
 use Rattle.archive_opening.specs.Counting.{HasCountsOf, HasInfo}
 use Rattle.archive_volumes.specs.Facts.{facts_from, facts_of}
 use Rattle.archive_volumes.specs.declared.volume_facts.VolumeFacts.{VolumeFacts}

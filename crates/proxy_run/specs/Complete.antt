@@ -1,8 +1,8 @@
 -- When a run isn't refused, and what the next one finds.
 use Rattle.std.specs.Prelude.{◌≡◌, ◌≢◌, ◌⊎◌, ℕ, ◌-◌, ◌^◌, ◌<◌, ◌≤◌, List, [], ◌++◌, length, true, IsTrue, Option, Some, None, Result, Ok, Err, ⊤}
-use Rattle.archive_core.specs.Finished.{FirstAreFinished}
+use Rattle.archive_settling.specs.Finished.{FirstAreFinished}
 use Rattle.archive_core.specs.Holdings.{Holdings, contents_of}
-use Rattle.archive_core.specs.Known.{told_at}
+use Rattle.archive_reopening.specs.Known.{told_at}
 use Rattle.archive_gathering.specs.Gathering.{IsIn}
 use Rattle.archive_opening.specs.Telling.{IsAskedFor, IsSettledFor}
 use Rattle.archive_shelf.specs.Openings.{HasIds, ImageStandsFor, IsNext, Moves}

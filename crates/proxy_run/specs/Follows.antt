@@ -15,7 +15,7 @@ use Rattle.exchange.specs.declared.aim.Target.{Target}
 use Rattle.outside.specs.declared.dialer.Dialer.{Ghosts as Dialers}
 use Rattle.outside.specs.declared.sink.Sink.{Ghosts as Sinks}
 use Rattle.replica.specs.Following.{HasFollowed, HaveIds, IsOfRefused, IsOnWay, OpensAtLast, OpensBehind, is_disk_stop, is_outside_stop}
-use Rattle.archive_core.specs.Known.{by_checkpoints}
+use Rattle.archive_reopening.specs.Known.{by_checkpoints}
 use Rattle.command.specs.Objects.{Objects}
 use Rattle.command.specs.Opening.{IsOpened}
 use Rattle.command.specs.Printing.{LacksMemory, Printed, Prints, printed_as}

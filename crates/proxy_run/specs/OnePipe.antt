@@ -1,7 +1,7 @@
 -- What `pipe` answers is told by what it is given: over one disk whose book is known the same bytes, times and transcripts are answered in one way.
 use Rattle.std.specs.Prelude.{◌≡◌, ◌≢◌, ℕ, ◌-◌, ◌^◌, ◌<◌, List, length, IsTrue, Option, Some}
 use Rattle.archive_core.specs.Holdings.{contents_of}
-use Rattle.archive_core.specs.Known.{told_at}
+use Rattle.archive_reopening.specs.Known.{told_at}
 use Rattle.archive_shelf.specs.declared.depth.Depth.TheVariants.{Checkpoints}
 use Rattle.capture.specs.declared.book.Book.{Book}
 use Rattle.proxy_run.specs.Complete.{IsSteady}

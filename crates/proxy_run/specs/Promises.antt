@@ -1,7 +1,7 @@
 -- What a server promises, sentence by sentence.
 use Rattle.std.specs.Prelude.{◌≡◌, ◌≢◌, ◌⊎◌, ℕ, ◌+◌, ◌≤◌, Bool, true, false, IsTrue, IsPermutation, List, [], ◌∷◌, ◌++◌, drop, length, Option, Some}
 use Rattle.std.specs.List.{flat_map, range_with_len, sum_by}
-use Rattle.archive_core.specs.Known.{told_at}
+use Rattle.archive_reopening.specs.Known.{told_at}
 use Rattle.archive_shelf.specs.Openings.{HasIds, ImageStandsFor}
 use Rattle.archive_shelf.specs.Told.{Told}
 use Rattle.archive_shelf.specs.declared.depth.Depth.TheVariants.{Checkpoints}

@@ -7,7 +7,7 @@ use Rattle.outside.specs.declared.sink.Sink.{Ghosts as Sinks}
 use Rattle.proxy_run.specs.Checks.{IsCounted}
 use Rattle.proxy_run.specs.Follows.{Follows}
 use Rattle.importing.specs.Imports.{Imports}
-use Rattle.archive_core.specs.Known.{by_checkpoints}
+use Rattle.archive_reopening.specs.Known.{by_checkpoints}
 use Rattle.command.specs.Objects.{Kinds, Objects, UsesFirst, objects_of, with_one}
 use Rattle.proxy_run.specs.Pipes.{Pipes, Refuses}
 use Rattle.command.specs.Printing.{LacksMemory, Prints, printed_as}

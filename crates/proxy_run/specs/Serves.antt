@@ -3,7 +3,7 @@ use Rattle.std.specs.Prelude.{◌≡◌, ◌≢◌, ◌⊎◌, ℕ, ◌-◌, Lis
 use Rattle.std.specs.List.{flat_map, range_with_len, sum_by}
 use Rattle.std.specs.List.Sorted.{IsStrictlyIncreasing}
 use Rattle.archive_core.specs.Holdings.{Holdings, contents_of}
-use Rattle.archive_core.specs.Known.{by_checkpoints}
+use Rattle.archive_reopening.specs.Known.{by_checkpoints}
 use Rattle.archive_core.specs.Stood.{KeepsFinished}
 use Rattle.archive_core.specs.Told.{told_of}
 use Rattle.archive_opening.specs.Telling.{HasCheckpointsOf}

@@ -1,7 +1,7 @@
 -- What `verify` tells of an archive whose bytes are what was written.
 use Rattle.std.specs.Prelude.{◌≡◌, ◌⊎◌, ℕ, false, List, length, map, All, IsTrue, Some, None, Option}
 use Rattle.std.specs.List.{list_any}
-use Rattle.archive_core.specs.Known.{told_at}
+use Rattle.archive_reopening.specs.Known.{told_at}
 use Rattle.archive_opening.specs.Counting.{HasCountsOf}
 use Rattle.archive_opening.specs.Telling.{IsReadWhole}
 use Rattle.archive_shelf.specs.Openings.{ImageStandsFor}

@@ -1,7 +1,7 @@
 //! The command `check`: how much an archive holds.
 ghost use Rattle.std.specs.Prelude.{◌⊎◌, None};
 ghost use Rattle.proxy_run.specs.Checks.{IsCounted};
-ghost use Rattle.archive_core.specs.Known.{opening_of};
+ghost use Rattle.archive_reopening.specs.Known.{opening_of};
 ghost use Rattle.command.specs.Opening.{IsNotOpened};
 ghost use Rattle.command.specs.Printing.{LacksMemory, Prints, printed_as};
 ghost use Rattle.command.specs.Texts as spec;

@@ -5,7 +5,7 @@ ghost use Rattle.proxy_run.specs.OnePipe.{PipesLeaveNoChoice};
 ghost use Rattle.proxy_run.specs.Promises.{AllAreHungUp, AllAreReadOut, BooksLeadOn, BooksOnlyGrow, CapturesAreStoredOnce, FaultsAreCounted, GatesAreEmptied, LogsAreInOrder, ServersAreAnswered, ServersCapturesComeBack, ServersLeaveReady, ServersLeaveSettled, ServersLeaveTheLast, ServersWithoutShelvesComeBack, ServersWithoutShelvesLeaveReady};
 ghost use Rattle.proxy_run.specs.Verified.{SoundVolumesVerify, VerifiesAreAnswered, VolumesVerifyOneWay};
 
-use archive_core::settling_keeps_checkpoints_right;
+use archive_settling::settling_keeps_checkpoints_right;
 use cdxj_index::books_have_one_index;
 use disk_model::Disk;
 use outside::{Clock, Dialer, Gate, Sink};

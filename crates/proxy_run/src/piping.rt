@@ -1,7 +1,7 @@
 //! The command `pipe`: one connection over an archive of its own.
 ghost use Rattle.std.specs.Prelude.{◌⊎◌, IfSome};
 ghost use Rattle.archive_opening.specs.Telling.{MayBeSettled};
-ghost use Rattle.archive_core.specs.Known.{by_checkpoints};
+ghost use Rattle.archive_reopening.specs.Known.{by_checkpoints};
 ghost use Rattle.command.specs.Objects.{kinds_of, objects_of};
 ghost use Rattle.proxy_run.specs.Pipes.{Pipes, Refuses};
 ghost use Rattle.command.specs.Words as spec;

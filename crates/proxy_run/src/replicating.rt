@@ -2,7 +2,7 @@
 ghost use Rattle.std.specs.Prelude.{◌≡◌, ◌∷◌, ◌++◌, ◌⊎◌, [], IfOk, IfSome, decimal};
 ghost use Rattle.httparse.specs.Ascii.{line_feed};
 ghost use Rattle.proxy_run.specs.Follows.{Follows, FollowsTo};
-ghost use Rattle.archive_core.specs.Known.{by_checkpoints};
+ghost use Rattle.archive_reopening.specs.Known.{by_checkpoints};
 ghost use Rattle.command.specs.Objects.{objects_of};
 ghost use Rattle.command.specs.Opening.{IsNotOpened};
 ghost use Rattle.command.specs.Printing.{LacksMemory, Prints, printed_as};

@@ -4,7 +4,7 @@ ghost use Rattle.archive_core.specs.Holdings.{Holdings, contents_of};
 ghost use Rattle.archive_core.specs.Stood.{StoodOn};
 ghost use Rattle.archive_opening.specs.Telling.{MayBeSettled};
 ghost use Rattle.capture.specs.declared.book.Book.{Book};
-ghost use Rattle.archive_core.specs.Known.{by_checkpoints};
+ghost use Rattle.archive_reopening.specs.Known.{by_checkpoints};
 ghost use Rattle.command.specs.Objects.{kinds_of, objects_of};
 ghost use Rattle.command.specs.Settling.{IsOf, OpensSettled};
 ghost use Rattle.disk_model.specs.Crash.{Leaves};
@@ -18,7 +18,8 @@ ghost use Rattle.warc_text.specs.Ids.{IsUuid};
 
 use crate::counting::tell_count;
 use crate::seating::serve_by;
-use archive_core::{Archive, StoodTexts};
+use archive_core::Archive;
+use archive_reopening::StoodTexts;
 use capture::Site;
 use command::{Command, Known, Ran, Status, asked_of, open_and_settle, settle_and_close, stood_on};
 use disk_model::Disk;

@@ -9,6 +9,7 @@ ghost use Rattle.proxy_run.specs.steps.TrialRuns.{Tries, trial_namespace, trial_
 
 use crate::serving::site_of_pipe;
 use archive_core::Archive;
+use archive_reopening::reopen;
 use archive_shelf::{Depth, Shelf};
 use capture::{Limits, Memory, Site};
 use command::{Ran, Status, print_as, trial_text};
@@ -77,7 +78,7 @@ fn tried(alloc: Global, count: u32, seed: u64) -> Result<Vec<u8>, Memory>
 fn new_shelf(alloc: Global, seed: u64) -> Result<LoadShelf<Archive<MemoryDisk>>, Memory> {
     let disk = MemoryDisk::new(alloc, Vec::new(alloc));
     let namespace = Some(Uuid::from_bytes(NAMESPACE));
-    let archive = match Archive::reopen(alloc, disk, namespace, LIMITS, Depth::Whole) {
+    let archive = match reopen(alloc, disk, namespace, LIMITS, Depth::Whole) {
         Ok(archive) => archive,
         Err(_) => return Err(Memory),
     };

@@ -4,7 +4,7 @@ ghost use Rattle.archive_volumes.specs.Facts.{facts_of};
 ghost use Rattle.archive_volumes.specs.declared.volume_facts.VolumeFacts.{VolumeFacts as Facts};
 ghost use Rattle.fixity.specs.Faults.{CountsDisk};
 ghost use Rattle.archive_opening.specs.Telling.{MayBeSettled};
-ghost use Rattle.archive_core.specs.Known.{by_checkpoints};
+ghost use Rattle.archive_reopening.specs.Known.{by_checkpoints};
 ghost use Rattle.command.specs.Opening.{IsNotOpened};
 ghost use Rattle.command.specs.Printing.{printed_as};
 ghost use Rattle.proxy_run.specs.Verifies.{ChecksVolumes, IsVerified};

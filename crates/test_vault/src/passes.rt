@@ -5,6 +5,7 @@ ghost use Rattle.warc_text.specs.Fits.{Fits};
 ghost use Rattle.vault.specs.Members.{IsMember};
 
 use archive_core::Archive;
+use archive_reopening::reopen;
 use archive_shelf::{Counts, Depth, Finder, Shelf};
 use capture::{Limits, Taken};
 use disk_model::Disk;
@@ -62,7 +63,7 @@ pub(crate) fn vault_over<R: Wait + Abort, D: Disk + Drop>(
 }
 
 fn opened<R: Abort, D: Disk + Drop>(rt: &R, alloc: Global, disk: D) -> Archive<D> {
-    match Archive::reopen(alloc, disk, None, limits(), Depth::Whole) {
+    match reopen(alloc, disk, None, limits(), Depth::Whole) {
         Ok(archive) => archive,
         Err(_) => panic!(rt; "no archive"),
     }

@@ -3,7 +3,7 @@ use Rattle.std.proofs.Common.{◌≡◌, Bool, false, List, [], ◌∷◌, ◌++
 use mathlib.Core.List.{IsPrefix}
 use Rattle.capture.specs.GrowthLaws.{GrowsFromItself, GrowthGoesOn, GrowthKeepsCaptures}
 use Rattle.cdxj_index.specs.Facts.{Facts}
-use Rattle.archive_core.specs.Shown.{numbered}
+use Rattle.archive_index.specs.Shown.{numbered}
 use Rattle.archive_shelf.specs.Contents.{Begins}
 use Rattle.archive_shelf.specs.Told.{KnowsBook, LooksOn}
 use Rattle.history_lock.specs.Known.{Known}

@@ -18,7 +18,7 @@ use Rattle.archive_shelf.proofs.CallLaws.{no_more}
 use Rattle.archive_volumes.proofs.ChangeLaws.{DiskLaws, laws_muted}
 use Rattle.archive_volumes.proofs.StoreLaws.{opens_earlier}
 use Rattle.archive_volumes.specs.Volumes.{muted}
-use Rattle.archive_core.proofs.FinishedLaws.{checkpoints_later, same_checkpoints_of}
+use Rattle.archive_settling.proofs.FinishedLaws.{checkpoints_later, same_checkpoints_of}
 use Rattle.archive_core.specs.Holdings.{Holdings}
 use Rattle.archive_core.specs.Stood.{KeepsStood}
 use Rattle.archive_core.specs.Stores.{Stores}

@@ -11,8 +11,8 @@ use Rattle.cdxj_index.specs.Order.{with_entry}
 use Rattle.cdxj_index.specs.Queries.{IsIndex, with_number}
 use Rattle.cdxj_index.proofs.Entries.{number_same, with_number-none, with_number-some}
 use Rattle.cdxj_index.proofs.Members.{among_from_contains, contains_from_among}
-use Rattle.archive_core.specs.Shown.{numbered}
-use Rattle.archive_core.proofs.ShownLaws.{shown_all, shown_from}
+use Rattle.archive_index.specs.Shown.{numbered}
+use Rattle.archive_index.proofs.ShownLaws.{shown_all, shown_from}
 use Rattle.index_snapshot.proofs.Bringing.{number_put}
 use Rattle.vault.specs.Taking.{HasBelow, IsGathered}
 

@@ -15,8 +15,8 @@ use Rattle.cdxj_index.specs.OfBook.{AreEntries, AreOf, by_number}
 use Rattle.cdxj_index.specs.Queries.{with_number}
 use Rattle.cdxj_index.proofs.Entries.{with_number-some}
 use Rattle.cdxj_index.proofs.Members.{Among, Among-append, Among-append_left, Among-append_right, all_among, all_from_among, among_from_contains, contains_from_among}
-use Rattle.archive_core.specs.Shown.{numbered}
-use Rattle.archive_core.proofs.ShownLaws.{numbered_sorted, shown_all, shown_from}
+use Rattle.archive_index.specs.Shown.{numbered}
+use Rattle.archive_index.proofs.ShownLaws.{numbered_sorted, shown_all, shown_from}
 use Rattle.index_snapshot.specs.Entries.{entries_in}
 use Rattle.vault.specs.Items.{AreItems, GoBehind, book_in, brings_of, last_book, last_from, shown_in, tells_in}
 use Rattle.vault.specs.declared.item.Item.{Item}

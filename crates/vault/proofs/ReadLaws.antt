@@ -18,7 +18,7 @@ use Rattle.archive_shelf.specs.declared.looked.Looked.{Looked}
 use Rattle.archive_payloads.specs.Choosing.{is_look_fault}
 use Rattle.archive_core.specs.Holdings.{Holdings, contents_of}
 use Rattle.archive_core.specs.Looking.{Looks}
-use Rattle.archive_core.specs.Shown.{numbered}
+use Rattle.archive_index.specs.Shown.{numbered}
 use Rattle.history_lock.specs.Seen.{Adds, All}
 use Rattle.vault.specs.Guarded.{Stands}
 use Rattle.vault.specs.History.{by_of, is_told, showing, told_book, told_in, told_limits}

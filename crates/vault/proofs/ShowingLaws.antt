@@ -18,7 +18,7 @@ use Rattle.cdxj_index.proofs.Members.{Among, Among-filter, Among-append_right, A
 use Rattle.cdxj_index.proofs.Orders.{order_total}
 use Rattle.archive_shelf.specs.Contents.{Shows}
 use Rattle.archive_shelf.specs.Queries.{ArePicked, IsFound}
-use Rattle.archive_core.specs.Shown.{numbered}
+use Rattle.archive_index.specs.Shown.{numbered}
 use Rattle.index_snapshot.specs.Entries.{HasEntries, entries_in}
 use Rattle.index_snapshot.proofs.Bringing.{entries_joined}
 use Rattle.vault.specs.History.{is_told, told_book}

@@ -4,7 +4,7 @@ use Rattle.capture.specs.Captures.{captures}
 use Rattle.capture.specs.Growth.{Grows}
 use Rattle.cdxj_index.specs.Facts.{Facts}
 use Rattle.archive_core.specs.Holdings.{Holdings}
-use Rattle.archive_core.specs.Shown.{numbered}
+use Rattle.archive_index.specs.Shown.{numbered}
 use Rattle.index_snapshot.specs.Entries.{entries_in}
 use Rattle.index_snapshot.specs.Publishing.{Print}
 use Rattle.vault.specs.History.{IsBegun, Names, is_told, told_book, told_limits}

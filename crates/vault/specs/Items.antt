@@ -9,7 +9,7 @@ use Rattle.cdxj_index.specs.OfBook.{AreOf, by_number}
 use Rattle.cdxj_index.specs.Queries.{IsIndex}
 use Rattle.archive_shelf.specs.Storing.{empty_book}
 use Rattle.archive_volumes.specs.Held.{book_of}
-use Rattle.archive_core.specs.Shown.{numbered}
+use Rattle.archive_index.specs.Shown.{numbered}
 use Rattle.index_snapshot.specs.Entries.{entries_in}
 use Rattle.vault.specs.declared.item.Entries.{Entries}
 use Rattle.vault.specs.declared.item.Entries.TheVariants.{Many, One}

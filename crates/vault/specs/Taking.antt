@@ -6,7 +6,7 @@ use Rattle.cdxj_index.specs.Facts.{Facts}
 use Rattle.cdxj_index.specs.OfBook.{AreEntries, AreOf}
 use Rattle.cdxj_index.specs.Queries.{IsIndex, with_number}
 use Rattle.archive_core.specs.Holdings.{Holdings}
-use Rattle.archive_core.specs.Shown.{numbered}
+use Rattle.archive_index.specs.Shown.{numbered}
 use Rattle.vault.specs.Items.{book_in, brings_of}
 use Rattle.vault.specs.declared.item.Item.{Item}
 

@@ -1,7 +1,7 @@
 //! A turn that brings a capture.
 ghost use Rattle.std.specs.Prelude.{◌≡◌};
 ghost use Rattle.archive_shelf.specs.Answers.{is_bring_fault};
-ghost use Rattle.archive_core.specs.Shown.{numbered};
+ghost use Rattle.archive_index.specs.Shown.{numbered};
 ghost use Rattle.history_lock.specs.Seen.{Adds};
 ghost use Rattle.vault.specs.Guarded.{KeepsShown};
 ghost use Rattle.vault.specs.History.{by_of, is_told};

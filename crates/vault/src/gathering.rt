@@ -2,7 +2,7 @@
 ghost use Rattle.std.specs.Prelude.{◌≡◌, ◌<◌, suc, IfNone, IfOk, IfSome, OnOk, None, Contains, length};
 ghost use Rattle.capture.specs.Captures.{captures};
 ghost use Rattle.cdxj_index.specs.Facts.{Facts};
-ghost use Rattle.archive_core.specs.Shown.{numbered};
+ghost use Rattle.archive_index.specs.Shown.{numbered};
 ghost use Rattle.vault.specs.Items.{book_in, brings_of};
 ghost use Rattle.vault.specs.Taking.{HasBelow, IsGathered, TakesItem};
 

@@ -1,5 +1,5 @@
 //! A turn that gives a capture as a piece.
-ghost use Rattle.archive_core.specs.Shown.{numbered};
+ghost use Rattle.archive_index.specs.Shown.{numbered};
 ghost use Rattle.history_lock.specs.Seen.{Adds};
 ghost use Rattle.vault.specs.Guarded.{KeepsShown};
 ghost use Rattle.vault.specs.History.{by_of, is_told};

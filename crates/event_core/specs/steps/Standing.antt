@@ -13,7 +13,7 @@ use Rattle.archive_shelf.specs.Told.{ShowsItsBook, Told}
 use Rattle.archive_shelf.specs.declared.fault.ReopenFault.{ReopenFault}
 use Rattle.archive_opening.specs.Opening.{IsOutside}
 use Rattle.archive_opening.specs.Telling.{MayBeSettled}
-use Rattle.archive_core.specs.Settling.{HasWithout}
+use Rattle.archive_settling.specs.Settling.{HasWithout}
 use Rattle.event_core.specs.Events.{Runs, Steps}
 use Rattle.event_core.specs.Machine.{State, sealed}
 use Rattle.event_core.specs.Running.{AllIdsDiffer, HoldsOne, IsLeftBy}

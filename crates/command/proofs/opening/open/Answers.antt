@@ -1,7 +1,7 @@
 -- The archive was opened, or it was refused.
 use Rattle.std.proofs.Common.{arith}
-use Rattle.archive_core.proofs.KnownLaws.{may_be_known}
-use Rattle.archive_core.specs.Known.{opening_of}
+use Rattle.archive_reopening.proofs.KnownLaws.{may_be_known}
+use Rattle.archive_reopening.specs.Known.{opening_of}
 use Rattle.command.proofs.OpeningLaws.{refused_as}
 use Rattle.command.proofs.SettlingLaws.{checkpoints_known}
 use Rattle.command.proofs.opening.open.Goals as goal

@@ -1,7 +1,7 @@
 -- The archive was refused, or the gate's first connection was served over it.
 use Rattle.std.proofs.Common.{ℕ, List, Option, refl, sym, subst, inl, inr}
 use Rattle.std.specs.Prelude.{IfSome}
-use Rattle.archive_core.specs.Known.{by_checkpoints}
+use Rattle.archive_reopening.specs.Known.{by_checkpoints}
 use Rattle.archive_core.specs.Stood.{KeepsOn, StoodOn}
 use Rattle.archive_opening.specs.Telling.{MayBeSettled}
 use Rattle.command.specs.Objects.{kinds_of, objects_of}

@@ -3,7 +3,7 @@ use Rattle.std.specs.Prelude.{nat_eq, IfOk}
 use Rattle.std.specs.List.{starts_with}
 use Rattle.archive_shelf.specs.Queries.{ArePicked}
 use Rattle.archive_core.specs.Holdings.{Holdings}
-use Rattle.archive_core.specs.Shown.{numbered}
+use Rattle.archive_index.specs.Shown.{numbered}
 use Rattle.archive_core.proofs.archive.Archive.entries_from.Goals as goal
 
 pub returns : goal.returns

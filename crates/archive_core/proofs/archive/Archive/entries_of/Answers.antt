@@ -2,7 +2,7 @@ use Rattle.std.proofs.Common.{subst}
 use Rattle.std.specs.Prelude.{bytes_eq, IfOk}
 use Rattle.archive_shelf.specs.Queries.{ArePicked}
 use Rattle.archive_core.specs.Holdings.{Holdings}
-use Rattle.archive_core.specs.Shown.{numbered}
+use Rattle.archive_index.specs.Shown.{numbered}
 use Rattle.archive_core.proofs.archive.Archive.entries_of.Goals as goal
 
 pub returns : goal.returns

@@ -2,7 +2,7 @@ use Rattle.std.proofs.Common.{subst}
 use Rattle.std.specs.Prelude.{IfOk}
 use Rattle.archive_shelf.specs.Queries.{IsFound}
 use Rattle.archive_core.specs.Holdings.{Holdings}
-use Rattle.archive_core.specs.Shown.{numbered}
+use Rattle.archive_index.specs.Shown.{numbered}
 use Rattle.archive_core.proofs.archive.Archive.nearest.Goals as goal
 
 pub returns : goal.returns

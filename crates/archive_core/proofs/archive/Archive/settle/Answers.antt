@@ -6,7 +6,7 @@ use Rattle.archive_volumes.specs.declared.spot.Spot.{Spot}
 use Rattle.archive_core.specs.Holdings.{Holdings}
 use Rattle.archive_core.specs.Settling.{SettlesOn}
 use Rattle.archive_core.specs.View.{holdings_of}
-use Rattle.archive_core.specs.steps.Supplying.{GoesThrough, shelved_as}
+use Rattle.archive_settling.specs.Supplying.{GoesThrough, shelved_as}
 use Rattle.archive_core.proofs.SettlingLaws.{over, settled_archive, settles_on}
 use Rattle.archive_core.proofs.archive.Archive.settle.Given.{Over}
 use Rattle.archive_core.proofs.archive.Archive.settle.Goals as goal

@@ -1,6 +1,6 @@
 use Rattle.std.proofs.Common.{arith}
 use Rattle.archive_volumes.specs.Held.{book_of}
-use Rattle.archive_core.proofs.PieceLaws.{few_volumes}
+use Rattle.archive_settling.proofs.WalkingLaws.{few_volumes}
 use Rattle.archive_core.proofs.archive.Archive.volumes.Goals as goal
 
 pub facts-requires-clause-volumes : goal.facts-requires-clause-volumes

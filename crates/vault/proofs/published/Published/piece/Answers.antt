@@ -3,7 +3,7 @@ use Rattle.history_lock.specs.Seen.{Adds}
 use Rattle.vault.specs.Guarded.{Publication}
 use Rattle.vault.specs.History.{by_of, is_told}
 use Rattle.vault.specs.Turns.{GivesIt}
-use Rattle.archive_core.specs.Shown.{numbered}
+use Rattle.archive_index.specs.Shown.{numbered}
 use Rattle.index_snapshot.specs.Entries.{entries_in}
 use Rattle.vault.specs.Items.{brings_of}
 use Rattle.vault.proofs.BringLaws.{adds_given}

@@ -1,6 +1,0 @@
-use Rattle.std.proofs.Common.{◌≡◌, ◌++◌}
-use Rattle.cdxj_index.specs.Queries.{starting_with}
-use Rattle.archive_core.proofs.finding.starting.Given as goal
-
-abbrev pub invariant-loop-entry : goal.invariant-loop-entry
-invariant-loop-entry l = starting_with l.start l.index ≡ l.entries.items ++ l.entry-iterator

@@ -1,5 +1,0 @@
--- The book is told where the disk tells.
-use Rattle.archive_core.proofs.reopen.open_whole.Given as goal
-
-abbrev pub ghost-told_by : goal.ghost-told_by
-ghost-told_by g a = g.D.Disk.tells

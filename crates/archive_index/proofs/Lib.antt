@@ -1,0 +1,4 @@
+pub mod FindingLaws
+pub mod IndexLaws
+pub mod ShownLaws
+pub mod SortLaws

@@ -1,0 +1,6 @@
+use Rattle.std.proofs.Common.{◌≡◌, ◌++◌}
+use Rattle.cdxj_index.specs.Queries.{of_key}
+use Rattle.archive_index.proofs.finding.with_key.Given as goal
+
+abbrev pub invariant-loop-entry : goal.invariant-loop-entry
+invariant-loop-entry l = of_key l.key l.index ≡ l.entries.items ++ l.entry-iterator

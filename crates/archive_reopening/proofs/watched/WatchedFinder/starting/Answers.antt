@@ -1,0 +1,19 @@
+use Rattle.std.proofs.Common.{IsTrue, refl, subst}
+use Rattle.std.specs.Prelude.{nat_eq, IfOk, OnOk}
+use Rattle.std.specs.List.{starts_with}
+use Rattle.archive_shelf.specs.Queries.{ArePicked}
+use Rattle.cdxj_index.specs.OfBook.{AreEntries}
+use Rattle.archive_core.specs.Holdings.{Holdings}
+use Rattle.archive_index.specs.Shown.{numbered}
+use Rattle.archive_core.proofs.ArchiveLaws.{on_each_ok}
+use Rattle.archive_reopening.proofs.watched.WatchedFinder.starting.Goals as goal
+
+pub returns-clause-found : goal.returns-clause-found
+returns-clause-found g c =
+    subst (λ (held : Holdings _). IfOk c.entries_from.result (λ entries. ArePicked (λ e. starts_with nat_eq e.key c.args.start.now) (numbered held.index) entries.items)) c.self.view_is c.entries_from.ensures
+
+pub returns-clause-knows : goal.returns-clause-knows
+returns-clause-knows g c =
+    subst (λ (held : Holdings _). OnOk c.entries_from.result (IsTrue held.told → AreEntries held.book (numbered held.index))) c.self.view_is
+    (on_each_ok c.entries_from.result (IsTrue c.self.inside.archive.told → AreEntries c.self.inside.archive.book (numbered c.self.inside.archive.index))
+    (c.shows_its_book.ensures.shows.consistent.shown refl))
