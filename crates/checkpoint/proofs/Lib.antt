@@ -1,8 +1,10 @@
 pub mod Behind
+pub mod ClearingLaws
 pub mod Cutting
 pub mod LeftLaws
 pub mod Missing
 pub mod PuttingLaws
 pub mod ReadingLaws
+pub mod SealedLaws
 pub mod VolumeLaws
 pub mod WritingLaws

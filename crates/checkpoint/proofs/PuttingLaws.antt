@@ -10,7 +10,7 @@ use Rattle.disk_model.specs.Moments.{AddsOnly}
 use Rattle.disk_model.proofs.MomentLaws.{goes_on, joined, none_added, weakened}
 use Rattle.disk_model.specs.declared.disk.Disk.{Ghosts}
 use Rattle.disk_model.specs.declared.kind.Kind.TheVariants.{Warc, Cdxj}
-use Rattle.gated_file.specs.Files.{HoldsAfter, HoldsEither, IsAdded, IsEither, KeepsText, text_of}
+use Rattle.gated_file.specs.Files.{HoldsAfter, HoldsEither, IsAdded, IsEither, IsFinished, KeepsText, text_of}
 use Rattle.gated_file.proofs.RewriteLaws.{rewritten_has, rewritten_there}
 use Rattle.gated_file.specs.declared.file.GatedFile.{GatedFile}
 use Rattle.warc_journal.specs.Extents.{warc_files}
@@ -210,3 +210,12 @@ module _ {D : Type 0} (d : Ghosts D) where
               beside = beside_twice volume first.before is.before i first.beside is.beside;
               own = ⊎_elim (λ same. inl (same ∙ first.same)) (λ new. inr new) is.own;
             }
+
+  -- what stood in the file was taken away
+  pub puts_none_of : (volume : ℕ) (old new : D) → AddsOnly d.moment d.images_since old new (IsFinished (gated_of volume) (d.reading old) (d.images old))
+      → KeepsText (gated_of volume) (d.reading old) (d.reading new) → PutsText d volume [] old new
+  puts_none_of volume old new run keeps = puts_by volume [] old new
+      (weakened d.moment d.images_since old new (IsFinished (gated_of volume) (d.reading old) (d.images old))
+      (IsEither (gated_of volume) (d.reading old) (d.images old) [])
+      (λ i is. record { before = is.before; was = is.was; there = is.there; bytes = is.bytes; described = inl is.described; whole = is.whole }) run)
+      keeps

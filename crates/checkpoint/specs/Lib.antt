@@ -1,4 +1,5 @@
 pub mod Checkpoints
+pub mod Clearing
 pub mod Faults
 pub mod OfVolume
 pub mod Putting

@@ -1,5 +1,5 @@
 //! The file of a checkpoint: how its text is put there, so that a stop leaves it whole or unfinished.
-ghost use Rattle.std.specs.Prelude.{◌≡◌, ◌+◌, ◌<◌, ◌≤◌, ◌^◌, IsTrue, OnOk, length};
+ghost use Rattle.std.specs.Prelude.{◌≡◌, ◌+◌, ◌<◌, ◌≤◌, ◌^◌, [], IsTrue, OnOk, length};
 ghost use Rattle.capture.specs.Faults.{CountsFaults};
 ghost use Rattle.capture.specs.Tails.{IsCommitted};
 ghost use Rattle.disk_model.specs.Crash.{HasFile, Leaves};
@@ -66,4 +66,21 @@ fn write_file<D: Disk>(disk: &mut D, volume: u32, text: &[u8]) -> Result<(), Fai
         is_dirty: true,
     };
     file.append(disk, text)
+}
+
+/// Takes away what stands in the file of a volume's checkpoint, where the file is there.
+pub(crate) fn clear_file<D: Disk>(disk: &mut D, volume: u32) -> Result<(), Failed>
+    requires there { IsTrue D.tells → volume < file_count (D.reading disk.old) Kind.Cdxj }
+    ensures cleared { IsTrue D.tells → OnOk result (Leaves (D.images disk.new) (HasFile Kind.Cdxj volume [])) }
+    ensures puts { IsTrue D.tells → PutsText D.Disk volume [] disk.old disk.new }
+    ensures faults { CountsFaults (D.faults disk.old) (D.faults disk.new) result }
+{
+    let mut file = GatedFile {
+        kind: Kind::Cdxj,
+        file: volume,
+        commit: COMMIT,
+        end: 0,
+        is_dirty: true,
+    };
+    file.mend(disk)
 }

@@ -2,6 +2,7 @@
 #![tactic(auto)]
 
 mod bytes;
+mod clearing;
 mod fault;
 mod file;
 mod laws;
@@ -9,9 +10,11 @@ mod lines;
 mod order;
 mod parse;
 mod reading;
+mod sealed;
 mod typed;
 mod writing;
 
+pub use clearing::clear_unsealed;
 pub use fault::CheckpointFault;
 pub use laws::{
     checkpoints_have_one_list_of_lines, volumes_have_one_list_of_lines,
