@@ -15,6 +15,7 @@ use Rattle.warc_journal.specs.declared.journal.Journal.{Journal}
 use Rattle.warc_text.specs.Books.{AreVolumeTexts}
 use Rattle.warc_text.specs.StandsFor.{StandsFor}
 use Rattle.cdxj_line.specs.declared.line.Line.{Line}
+use Rattle.checkpoint.specs.Clearing.{Clears, HasCleared}
 use Rattle.checkpoint.specs.Putting.{HasPut, Puts}
 use Rattle.checkpoint.specs.declared.fault.CheckpointFault.{CheckpointFault}
 use Rattle.checkpoint.specs.declared.fault.CheckpointFault.TheVariants as checkpoints
@@ -57,6 +58,13 @@ module _ {D : Type 0} (d : Ghosts D) where
         (λ image has. record { before = has.before; was = has.was; same = has.beside.warc }) puts.leaves;
   }
 
+  pub warc_cleared : (first : ℕ) (old new : D) → Clears d first old new → StaysWarc d old new
+  warc_cleared first old new clears = record {
+    reading = clears.reading.warc;
+    leaves = weakened d.moment d.images_since old new (HasCleared first (d.images old)) (HasWarcOf (d.images old))
+        (λ image has. record { before = has.before; was = has.was; same = has.beside.warc }) clears.leaves;
+  }
+
   pub warc_supplied : (volume : ℕ) (lines : List Line) (old new : D) (result : Result Bool CheckpointFault) → Supplies d volume lines old new result
       → StaysWarc d old new
   warc_supplied volume lines old new (Ok true) supplied = warc_puts volume lines old new supplied.0.puts
@@ -66,7 +74,7 @@ module _ {D : Type 0} (d : Ghosts D) where
   warc_supplied volume lines old new (Err checkpoints.Memory) supplied = warc_rests old new supplied
 
   module _ (laws : DiskLaws d) where
-    opens_beside : (old new : D) → (IsTrue d.tells → StaysWarc d old new) → OpensNoMore (crash_of d old) (crash_of d new)
+    pub opens_beside : (old new : D) → (IsTrue d.tells → StaysWarc d old new) → OpensNoMore (crash_of d old) (crash_of d new)
     opens_beside old new stays = record {
       later = later_by d old new d.tells (λ told. (stays told).leaves.later);
       moves = λ t x le o. ⊎_elim

@@ -21,6 +21,8 @@ pub enum Call<'a> {
     ReadCheckpoint(u32),
     /// The checkpoint of a volume is written, which has this text.
     WriteCheckpoint(u32, &'a [u8]),
+    /// The checkpoints of volumes that aren't sealed are taken away.
+    ClearUnsealed,
     /// A volume is checked.
     Verify(Due<'a>),
     /// The counts of the disk are told.
@@ -53,6 +55,7 @@ impl<'a> Call<'a> {
         match name {
             "files" => Some(Call::Files(kind_in(text)?)),
             "create" => Some(Call::Create(kind_in(text)?)),
+            "clear-unsealed" => Some(Call::ClearUnsealed),
             "counts" => Some(Call::Counts),
             "fuse" => Some(Call::Fuse(number_in(text)?)),
             "half-make" => Some(Call::HalfMake),

@@ -146,6 +146,7 @@ fn told<R: Threads + Sync>(
         Call::Read(kind, file, at, len) => looked::read(alloc, disk, kind, file, at, len),
         Call::Write(kind, file, at, bytes) => Ok(looked::write(disk, kind, file, at, bytes)),
         Call::WriteEach(kind, file, at, bytes) => Ok(write_each(disk, kind, file, at, bytes)),
+        Call::ClearUnsealed => Ok(checkpoints::clear(disk)),
         Call::ReadCheckpoint(volume) => checkpoints::read(alloc, disk, volume),
         Call::WriteCheckpoint(volume, text) => checkpoints::write(alloc, disk, volume, text),
         Call::Verify(due) => verdicts::verify(rt, alloc, disk, due),

@@ -9,7 +9,7 @@ use crate::reaching::{Absent, look};
 use crate::told::Told;
 use capture::{Failed, Memory};
 use cdxj_line::{Line, put_line};
-use checkpoint::{CheckpointFault, read_for, write_for};
+use checkpoint::{CheckpointFault, clear_unsealed, read_for, write_for};
 use disk_model::{Disk, Kind, MemoryDisk};
 use std::alloc::Global;
 
@@ -40,6 +40,14 @@ pub fn write(
         Ok(()) => Ok(Told::Done),
         Err(CheckpointFault::DiskFault) => Ok(Told::DiskFault),
         Err(CheckpointFault::Memory) => Err(Memory),
+    }
+}
+
+/// Takes away the checkpoints of volumes that aren't sealed.
+pub fn clear(disk: &mut MemoryDisk) -> Told {
+    match clear_unsealed(disk) {
+        Ok(()) => Told::Done,
+        Err(_) => Told::DiskFault,
     }
 }
 

@@ -1,3 +1,4 @@
+pub mod BeginningLaws
 mod FileNames
 pub mod GateLaws
 mod HostTexts

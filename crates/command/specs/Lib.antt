@@ -1,4 +1,5 @@
 pub mod Base
+pub mod Beginning
 pub mod Gates
 pub mod Objects
 pub mod Opening

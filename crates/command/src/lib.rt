@@ -2,6 +2,7 @@
 #![tactic(auto)]
 
 mod base;
+mod beginning;
 mod hanging_up;
 mod opening;
 mod printing;
@@ -11,6 +12,7 @@ mod status;
 mod texts;
 mod words;
 
+pub use beginning::{begin, beginning_keeps_what_is_known};
 pub use hanging_up::hang_up;
 pub use opening::{Known, Unknown, open};
 pub use printing::print_as;

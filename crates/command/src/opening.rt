@@ -68,7 +68,7 @@ pub fn open<K: Known, D: Disk, O: Sink>(
 }
 
 /// Prints why an archive isn't opened, unless there is no memory.
-fn print_fault<O: Sink>(alloc: Global, out: &mut O, fault: &ReopenFault) -> Status
+pub(crate) fn print_fault<O: Sink>(alloc: Global, out: &mut O, fault: &ReopenFault) -> Status
     ensures { ((text : List ℕ) × IsFaultText fault.now text × Prints O.Sink Status.Archive text out.old out.new result)
         ⊎ LacksMemory O.Sink out.old out.new result }
 {

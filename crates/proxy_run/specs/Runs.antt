@@ -1,5 +1,5 @@
 -- What a run leaves, by what its words ask for.
-use Rattle.std.specs.Prelude.{◌≡◌, ◌⊎◌, ℕ, List, Option, Some, None}
+use Rattle.std.specs.Prelude.{◌≡◌, ◌⊎◌, ℕ, IsTrue, List, Option, Some, None}
 use Rattle.archive_shelf.specs.declared.depth.Depth.TheVariants.{Whole}
 use Rattle.capture.specs.declared.book.Book.{Book}
 use Rattle.capture.specs.declared.site.Site.{Site}
@@ -8,6 +8,7 @@ use Rattle.proxy_run.specs.Checks.{IsCounted}
 use Rattle.proxy_run.specs.Follows.{Follows}
 use Rattle.importing.specs.Imports.{Imports}
 use Rattle.archive_reopening.specs.Known.{by_checkpoints}
+use Rattle.command.specs.Beginning.{BeginsWith, IsNotBegun, stores}
 use Rattle.command.specs.Objects.{Kinds, Objects, UsesFirst, objects_of, with_one}
 use Rattle.proxy_run.specs.Pipes.{Pipes, Refuses}
 use Rattle.command.specs.Printing.{LacksMemory, Prints, printed_as}
@@ -63,3 +64,14 @@ module _ {D G L P N M C O : Type 0} (kinds : Kinds D G L P N M C O) (known : Opt
   Runs (Some (Verify workers)) site was is result =
       (IsVerified kinds.disks kinds.sinks (by_checkpoints was.disk None known) is.disk (printed_as was.out is.out result) × (is ≡ record was { disk = is.disk; out = is.out }))
       ⊎ Refuses kinds (by_checkpoints was.disk None known) was is result
+
+  -- The disk failed before an archive was opened to store, and neither gate nor crew was touched.
+  pub record FailsToBegin (was is : Objects D G (List (N × C)) O) (result : Status) : Type 0 where
+    pub begun : IsNotBegun kinds.disks kinds.sinks was.disk is.disk (printed_as was.out is.out result)
+    pub untouched : is ≡ record was { disk = is.disk; out = is.out }
+
+  -- What the words ask for was done over the disk that their command begins with: for one that stores, without checkpoints of volumes that aren't sealed.
+  abbrev pub RunsFrom : Option Command → Option Site → Objects D G (List (N × C)) O → Objects D G (List (N × C)) O → Status → Type 0
+  RunsFrom found site was is result =
+      ((begun : D) × BeginsWith kinds.disks (stores found) was.disk begun × Runs found site (record was { disk = begun }) is result)
+      ⊎ (IsTrue (stores found) × FailsToBegin was is result)
