@@ -37,7 +37,7 @@ told_so stored head at key date uri mime status date_is uri_is mime_is status_is
   length = at.len;
 }
 
-pub enters_told : (stored : Stored) (head : ResponseHead) (at : RecordAt) (entry : Option Facts) → stored.method ≡ codes "GET" → status_code head ≢ 304
+enters_told : (stored : Stored) (head : ResponseHead) (at : RecordAt) (entry : Option Facts) → stored.method ≡ codes "GET" → status_code head ≢ 304
     → IsToldAs stored head at entry → EntersAs stored head at entry
 enters_told stored head at (Some entry) get changed told =
     let is = told.2 in

@@ -1,6 +1,6 @@
 -- What is kept of a capture that was written, and where it stands.
 use Rattle.std.proofs.Common.{◌≡◌, ℕ, ◌+◌, ◌-◌, ◌^◌, ◌<◌, ◌≤◌, Bool, true, false, IsTrue, List, [], ◌∷◌, ◌++◌, length, Option, Some, None, refl, sym, ap, subst, ◌∙◌, inl, inr, ⊎_elim, ◌⊎◌, arith, append-nil, append_assoc, length-append}
-use Rattle.std.specs.Prelude.{drop, slice_get}
+use Rattle.std.specs.Prelude.{IfSome, drop, slice_get}
 use Rattle.std.proofs.lemmas.Bool.{cases_lt, false≢true}
 use Rattle.std.proofs.lemmas.List.{get_or_append_left, get_or-set_other, length-set, length_push}
 use Rattle.std.proofs.lemmas.Grind.{get_or-set_at}
@@ -42,6 +42,13 @@ use Rattle.archive_volumes.specs.declared.volumes.Volumes.{Volumes}
 
 no_other : (first : ℕ) → Some first ≡ None → ⊥
 no_other first e = cc
+
+-- what is referred to is earlier
+pub refers_within : (cut : Bool) (book : Book) (same : Option ℕ) → CanRefer cut book same → IfSome same (λ first. first < length (captures book))
+refers_within true book None refers = tt
+refers_within true book (Some first) refers = absurd (no_other first refers)
+refers_within false book None refers = tt
+refers_within false book (Some first) refers = slice_get_within (captures book) first refers.stored refers.placed
 
 -- the head and the wire that is kept are the block of the first record
 block_by : (book : Book) (cut : Bool) (head wire : List ℕ) (same : Option ℕ) (taken : Taken) → taken.head ≡ head → taken.wire ≡ wire → CanRefer cut book same

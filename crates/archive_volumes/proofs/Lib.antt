@@ -1,5 +1,6 @@
 pub mod ChangeLaws
 mod EntryLaws
+mod ExitLaws
 pub mod FactsLaws
 pub mod GroupLaws
 pub mod GroupPlaces

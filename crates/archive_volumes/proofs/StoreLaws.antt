@@ -154,6 +154,19 @@ module _ {D : Type 0} (d : Ghosts D) (laws : DiskLaws d) where
     just = tt;
   }
 
+  -- and what was done as what was done
+  pub writes_done : {T E S F : Type 0} (old new : D) (book room after now : Book) (value : T) (done : S)
+      → Writes {E = E} d old new (books_as book room after now) (Ok value) → Writes {E = F} d old new (books_as book room after now) (Ok done)
+  writes_done old new book room after now value done writes = record {
+    later = writes.later;
+    moves = writes.moves;
+    only = writes.only;
+    refused = λ ids. tt;
+    covered = writes.covered;
+    kept = writes.kept;
+    just = writes.just;
+  }
+
   -- ---- a store: what only reads, and then writes
 
   module _ {T E : Type 0} (old mid new : D) (was is : Contents) (taken : Taken) (room after : Book) (result : Result T E)

@@ -3,6 +3,8 @@ use Rattle.std.proofs.Common.{◌≡◌, ℕ, ◌+◌, ◌^◌, ◌<◌, ◌≤�
 use Rattle.std.specs.Prelude.{slice_get, IsSome}
 use Rattle.std.proofs.lemmas.Bool.{false≢true}
 use Rattle.std.proofs.lemmas.Option.{same_Some, slice_get-get_or}
+use Rattle.capture.proofs.GrowthLaws.{growth_keeps_captures, growth_keeps_payloads}
+use Rattle.capture.proofs.PayloadLaws.{captures_have_one}
 use Rattle.capture.specs.Captures.{captures}
 use Rattle.capture.specs.declared.book.Book.{Book}
 use Rattle.capture.specs.declared.book.Volume.{Volume}
@@ -15,11 +17,13 @@ use Rattle.warc_journal.specs.Journals.{Changes, IsInStep, Rests, last_len, text
 use Rattle.warc_journal.specs.Texts.{Hold, with_more}
 use Rattle.warc_journal.specs.declared.extent.Extent.{Extent}
 use Rattle.warc_journal.specs.declared.journal.Journal.{Journal}
+use Rattle.warc_text.proofs.GrowthLaws.{GrowthKeeps, last_volume_goes_on, sealed_volumes_stay}
+use Rattle.warc_text.proofs.OneTextLaws.{one_group, volumes_have_one_text}
 use Rattle.warc_text.specs.Books.{AreVolumeTexts, IsGroupText}
 use Rattle.warc_text.specs.Records.{info_text}
 use Rattle.warc_text.specs.Sound.{IsSound}
-use Rattle.archive_shelf.proofs.GainingSoundness.{no_volumes}
-use Rattle.archive_shelf.proofs.GainingTexts.{last_placed, same_length}
+use Rattle.archive_shelf.proofs.GainingSoundness.{no_volumes, volumes_keep_soundness}
+use Rattle.archive_shelf.proofs.GainingTexts.{captures_add_their_group, last_placed, same_length, volumes_add_their_text}
 use Rattle.archive_shelf.proofs.StoringLaws.{captures_more, captures_stay, capture_grows, kept_before}
 use Rattle.archive_shelf.specs.Gaining.{AreFilled, CapturesAddTheirGroup, VolumesAddTheirText, VolumesKeepSoundness}
 use Rattle.archive_shelf.specs.Storing.{add_to_last, new_volume, with_capture, with_volume}
@@ -121,26 +125,40 @@ module _ {D : Type 0} (d : Ghosts D) (laws : DiskLaws d) (told : Bool) (old new 
       let failure : Result T _ = Err fault in
       refused_on (muted told d) old.disk new.disk before after failure answer refl failed (makes_by failure change)
 
+-- what the texts of a book and its soundness are when it grows
+growth : GrowthKeeps
+growth = record { captures = growth_keeps_captures; payloads = growth_keeps_payloads }
+
+text_added : VolumesAddTheirText
+text_added = volumes_add_their_text (sealed_volumes_stay growth) (last_volume_goes_on growth)
+
+group_added : CapturesAddTheirGroup
+group_added = captures_add_their_group (sealed_volumes_stay growth) (last_volume_goes_on growth)
+
+sound_with : VolumesKeepSoundness
+sound_with = volumes_keep_soundness (sealed_volumes_stay growth) (last_volume_goes_on growth) (one_group captures_have_one) volumes_have_one_text
+
 -- a volume with this text is begun
 pub volume_change : {D : Type 0} (d : Ghosts D) (told : Bool) (old : Journal D) (book : Book) (born : ℕ) (text : List ℕ)
-    → VolumesAddTheirText → VolumesKeepSoundness → HoldsBook d told old book → AreFilled book → InRange born
+    → HoldsBook d told old book → AreFilled book → InRange born
     → text ≡ info_text book.namespace (length book.volumes) born
     → IsChange d told old book (with_volume book born) (texts d old ++ text ∷ [])
-volume_change d told old book born text add keep holds filled in_range info = record {
+volume_change d told old book born text holds filled in_range info = record {
   holds = holds;
-  will_be = λ so. subst (λ (t : List ℕ). AreVolumeTexts (with_volume book born) (texts d old ++ t ∷ [])) (sym info) (add book born (texts d old) (holds.texts_are so));
-  sound = λ so. keep book born (holds.sound so) filled in_range;
+  will_be = λ so. subst (λ (t : List ℕ). AreVolumeTexts (with_volume book born) (texts d old ++ t ∷ [])) (sym info)
+      (text_added book born (texts d old) (holds.texts_are so));
+  sound = λ so. sound_with book born (holds.sound so) filled in_range;
   step = step_volume book born;
 }
 
 -- a capture with this group is added
 pub capture_change : {D : Type 0} (d : Ghosts D) (told : Bool) (old : Journal D) (book : Book) (stored : Stored) (group : List ℕ)
-    → CapturesAddTheirGroup → HoldsBook d told old book → 0 < length book.volumes
+    → HoldsBook d told old book → 0 < length book.volumes
     → (IsTrue told → IsGroupText (with_capture book stored) (length (captures book)) group) → (IsTrue told → IsSound (with_capture book stored))
     → IsChange d told old book (with_capture book stored) (with_more (texts d old) group)
-capture_change d told old book stored group add holds some is_group sound = record {
+capture_change d told old book stored group holds some is_group sound = record {
   holds = holds;
-  will_be = λ so. add book stored (texts d old) group some (holds.texts_are so) (is_group so);
+  will_be = λ so. group_added book stored (texts d old) group some (holds.texts_are so) (is_group so);
   sound = sound;
   step = step_capture book stored some;
 }

@@ -118,8 +118,7 @@ fn entry_by(
     match url {
         Some(url) => {
             let key = key_of_url(alloc, url)?;
-            let entry = entry_with(alloc, asked, key, head, at)?;
-            Ok(Some(entry))
+            entry_with(alloc, asked, key, head, at)
         }
         None => told_entry(alloc, asked, head, at),
     }
@@ -142,8 +141,7 @@ pub fn told_entry(
         Err(KeyFault::NotHttp) => return Ok(None),
         Err(KeyFault::Memory) => return Err(Memory),
     };
-    let entry = entry_with(alloc, asked, key, head, at)?;
-    Ok(Some(entry))
+    entry_with(alloc, asked, key, head, at)
 }
 
 /// The entry of a capture of which this is told, and whose target has this key.
@@ -153,14 +151,14 @@ fn entry_with(
     key: Key,
     head: &ResponseHead,
     at: RecordAt,
-) -> Result<Entry, Memory>
+) -> Result<Option<Entry>, Memory>
     requires date { InRange asked.now.date }
     requires keyed { the_key_of asked.now.uri.now ≡ Some key }
     requires parsed { (text : List ℕ) × (h : grammar.ResponseHead) × HoldsResponseParts text h head.now }
     ensures { (stored : Capture) (text : List ℕ) (h : grammar.ResponseHead) → IsAskedOf stored asked.now.method.now asked.now.uri.now asked.now.date asked.now.revisit
-        → HoldsResponseParts text h head.now → IfOk result (λ entry. IsToldAs stored h at (Some entry)) }
+        → HoldsResponseParts text h head.now → IfOk result (IsToldAs stored h at) }
 {
-    Ok(Entry {
+    Ok(Some(Entry {
         key,
         date: asked.date,
         number: at.number,
@@ -171,7 +169,7 @@ fn entry_with(
         volume: at.volume,
         offset: at.offset,
         length: at.len,
-    })
+    }))
 }
 
 /// The media type of an entry: that of a revisit is its own.

@@ -8,7 +8,7 @@ ghost use Rattle.archive_shelf.specs.Storing.{empty_book, new_volume, with_captu
 
 use crate::stored_ghost::StoredGhost;
 use crate::volume_facts::{VolumeFacts, tell};
-use capture::{Memory, Stored};
+use capture::Memory;
 use std::alloc::Global;
 use uuid::Uuid;
 
@@ -102,10 +102,13 @@ impl Held {
         ensures book { book_of self.new ≡ book_of self.old }
         ensures space { OnOk result (TakesCapture self.new) }
     {
-        if let Some(last) = &mut self.last {
-            last.captures.reserve(1)?;
+        match &mut self.last {
+            Some(last) => {
+                last.captures.reserve(1)?;
+                Ok(())
+            }
+            None => Ok(()),
         }
-        Ok(())
     }
 
     /// A new volume with room for one capture, and room for it behind the others.
@@ -135,14 +138,6 @@ impl Held {
     }
 
     /// Adds a capture to the last volume, in the room that is there. Takes no memory.
-    pub fn add(&mut self, stored: &Stored)
-        requires space { TakesCapture self.old }
-        ensures book { book_of self.new ≡ with_capture (book_of self.old) stored.now }
-    {
-        self.add_ghost(StoredGhost::of(stored));
-    }
-
-    /// Adds a capture of which only clauses know. Takes no memory.
     pub fn add_ghost(&mut self, stored: StoredGhost)
         requires space { TakesCapture self.old }
         ensures book { book_of self.new ≡ with_capture (book_of self.old) (stored_in stored) }

@@ -58,8 +58,8 @@ impl<D: Disk> Volumes<D> {
         ensures book { book_of self.new.held ≡ book_of self.old.held }
         ensures journal { self.new.journal ≡ self.old.journal }
     {
-        let spot = Spot::of_taken(taken, digest, same)?;
         let group = self.group_of(alloc, spots, taken, digest, same)?;
+        let spot = Spot::of_taken(taken, digest, same)?;
         let layout = layout_of(taken, same, group.as_slice());
         let long = group.as_slice().len() as u64;
         let prepared = self.make_room(alloc, taken.date, long, limit)?;

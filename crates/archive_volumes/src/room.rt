@@ -65,7 +65,7 @@ impl<D: Disk> Volumes<D> {
             let prepared = self.prepare(alloc, date)?;
             return Ok(Some(prepared));
         }
-        self.reserve()?;
+        self.held.reserve()?;
         Ok(None)
     }
 }

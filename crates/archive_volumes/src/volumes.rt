@@ -1,5 +1,5 @@
 //! The volumes on the disk, and the book that they hold.
-ghost use Rattle.std.specs.Prelude.{◌≡◌, ◌+◌, ◌-◌, ◌^◌, ◌<◌, ◌≤◌, [], ◌∷◌, ◌++◌, IsTrue, IfOk, IfSome, OnOk, is_ok, if◌then◌else◌, length, slice_index_or, take, drop, Bool};
+ghost use Rattle.std.specs.Prelude.{◌≡◌, ◌+◌, ◌-◌, ◌^◌, ◌<◌, ◌≤◌, [], ◌∷◌, ◌++◌, IsTrue, IfOk, OnOk, is_ok, if◌then◌else◌, length, slice_index_or, take, drop, Bool};
 ghost use Rattle.capture.specs.Captures.{captures};
 ghost use Rattle.capture.specs.Faults.{CountsFaults};
 ghost use Rattle.capture.specs.Tails.{IsCommitted};
@@ -13,19 +13,18 @@ ghost use Rattle.warc_text.specs.Sound.{IsSound};
 ghost use Rattle.warc_text.specs.StandsFor.{commit_byte};
 ghost use Rattle.archive_shelf.specs.Gaining.{AreFilled};
 ghost use Rattle.archive_shelf.specs.Storing.{with_capture, with_volume};
-ghost use Rattle.archive_volumes.specs.Held.{HasSpace, TakesCapture, TakesVolume, book_of, stored_in};
+ghost use Rattle.archive_volumes.specs.Held.{TakesCapture, TakesVolume, book_of, stored_in};
 ghost use Rattle.archive_volumes.specs.Volumes.{HoldsBook, IsMeasured, IsPrepared, IsQuiet, Makes, muted};
 
 use crate::held::Held;
 use crate::room::Prepared;
 use crate::stored_ghost::StoredGhost;
-use archive_shelf::{storing_keeps_soundness, texts_go_on_behind};
-use capture::{Bytes, Memory};
+use capture::Memory;
 use disk_model::Disk;
 use shown::Shown;
 use std::alloc::Global;
 use warc_journal::{DiskFault, Journal, Place};
-use warc_text::{info_len, put_info, texts_are_committed};
+use warc_text::info_text;
 
 /// The journal of the volumes, and the book that they hold, without its bytes.
 #[derive(Drop)]
@@ -63,23 +62,9 @@ impl<D: Disk> Volumes<D> {
         ensures journal { self.new.journal ≡ self.old.journal }
     {
         let number = self.journal.volumes();
-        let mut info = Vec::with_capacity(alloc, info_len(number, born) as usize)?;
-        put_info(&mut info, &self.held.namespace, number, born)?;
+        let info = info_text(alloc, &self.held.namespace, number, born)?;
         let shadow = self.held.prepare_volume(alloc, born)?;
-        Ok(Prepared {
-            shadow,
-            info: Bytes::of(info),
-        })
-    }
-
-    /// Makes room for one capture more in the last volume. Nothing is written.
-    pub(crate) fn reserve(&mut self) -> Result<(), Memory>
-        requires { 0 < length (book_of self.old.held).volumes }
-        ensures space { OnOk result (TakesCapture self.new.held) }
-        ensures book { book_of self.new.held ≡ book_of self.old.held }
-        ensures journal { self.new.journal ≡ self.old.journal }
-    {
-        self.held.reserve()
+        Ok(Prepared { shadow, info })
     }
 
     /// Begins the volume that was prepared, in the room that is there. Refused, the book is as before.
@@ -109,9 +94,6 @@ impl<D: Disk> Volumes<D> {
         ensures faults { CountsFaults (D.faults (disk_of self.old.journal)) (D.faults (disk_of self.new.journal)) result }
     {
         let _ = told;
-        texts_are_committed();
-        texts_go_on_behind();
-        storing_keeps_soundness();
         let Prepared { shadow, info } = prepared;
         self.journal.roll(info.as_slice())?;
         self.held.add_volume(shadow);
@@ -152,7 +134,6 @@ impl<D: Disk> Volumes<D> {
         ensures faults { CountsFaults (D.faults (disk_of self.old.journal)) (D.faults (disk_of self.new.journal)) result }
     {
         let _ = told;
-        texts_go_on_behind();
         let place = self.journal.append(group)?;
         self.held.add_ghost(stored);
         Ok(place)

@@ -1,4 +1,4 @@
-use Rattle.std.proofs.Common.{rules, ◌≡◌, sym, ap, ◌∙◌, arith}
+use Rattle.std.proofs.Common.{◌≡◌, sym, ap, ◌∙◌, arith}
 use Rattle.surt_key.specs.Key.{key_of}
 use Rattle.archive_volumes.proofs.EntryLaws.{told_so}
 use Rattle.archive_volumes.proofs.StatusLaws.{status_to}
@@ -7,7 +7,7 @@ use Rattle.archive_volumes.proofs.entry.entry_with.Goals as goal
 pub invariant_of-result : goal.invariant_of-result
 invariant_of-result c =
     let parsed = c.requires.parsed in
-    let uri : c.in_ok-copy.field-0 ≡ c.args.asked.now.uri.now = search rules in
+    let uri : c.in_ok-copy.field-0 ≡ c.args.asked.now.uri.now = c.in_ok-copy.ensures in
     record {
       in_range = c.requires.date;
       status_from = omega (arith, parsed.2.status, parsed.2.reads.status);
@@ -17,7 +17,7 @@ invariant_of-result c =
 
 pub returns : goal.returns
 returns c = λ stored text h is of.
-    let uri : c.in_ok-copy.field-0 ≡ c.args.asked.now.uri.now = search rules in (
+    let uri : c.in_ok-copy.field-0 ≡ c.args.asked.now.uri.now = c.in_ok-copy.ensures in (
       c.args.key,
       ap key_of is.uri_is ∙ c.requires.keyed,
       told_so stored h c.args.at c.args.key c.args.asked.now.date c.in_ok-copy.field-0 _ c.args.head.now.status

@@ -1,4 +1,4 @@
-use Rattle.std.proofs.Common.{rules, ◌≡◌, ◌++◌, ◌∷◌, [], List, map, Option, Some, option_to_list, refl, sym, ap, ◌∙◌}
+use Rattle.std.proofs.Common.{◌≡◌, ◌++◌, ◌∷◌, [], List, map, Option, Some, option_to_list, refl, sym, ap, ◌∙◌}
 use Rattle.capture.specs.declared.book.Volume.{Volume}
 use Rattle.archive_volumes.specs.Held.{stored_in, volume_of}
 use Rattle.archive_shelf.specs.Storing.{add_to_last}
@@ -10,8 +10,8 @@ pub returns-in-Some : goal.returns-in-Some
 returns-in-Some c =
     let self = c.args.self.now in
     let last = c.in-Some.last in
-    let items : c.push_reserved.new.self.items ≡ last.captures.items ++ c.args.stored ∷ [] = search rules in
-    let is : self.last ≡ Some last = search rules in
+    let items : c.push_reserved.new.self.items ≡ last.captures.items ++ c.args.stored ∷ [] = c.push_reserved.ensures.items in
+    let is : self.last ≡ Some last = c.in-Some.is in
     let volumes = capture_behind self.sealed.items last.born last.captures.items c.push_reserved.new.self.items c.args.stored (stored_in c.args.stored) items refl in
     record {
       book = ap (λ (l : List Volume). record { namespace = self.namespace; volumes = l })

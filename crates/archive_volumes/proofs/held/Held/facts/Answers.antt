@@ -13,7 +13,7 @@ overflow_cast-count c =
     let shadow = c.index-sealed-done.result in
     let less : c.volumes.done < length sealed = search rules in
     let at : shadow ≡ get_or sealed c.volumes.done shadow = c.index-sealed-done.is ∙ ap (λ (l : List Shadow). get_or l c.volumes.done shadow) c.as_slice-sealed.ensures.value in
-    let count : c.len-count.result ≡ length shadow.captures.items = search rules in
+    let count : c.len-count.result ≡ length shadow.captures.items = omega (arith, c.len-count.ensures, shadow.captures.ok.0) in
     omega (arith, sum_within sealed others c.volumes.done shadow less at, count, c.requires.captures)
 
 pub tell-requires-clause-small : goal.tell-requires-clause-small
@@ -23,7 +23,7 @@ tell-requires-clause-small c =
     let shadow = c.index-sealed-done.result in
     let less : c.volumes.done < length sealed = search rules in
     let at : shadow ≡ get_or sealed c.volumes.done shadow = c.index-sealed-done.is ∙ ap (λ (l : List Shadow). get_or l c.volumes.done shadow) c.as_slice-sealed.ensures.value in
-    let count : c.len-count.result ≡ length shadow.captures.items = search rules in
+    let count : c.len-count.result ≡ length shadow.captures.items = omega (arith, c.len-count.ensures, shadow.captures.ok.0) in
     omega (arith, sum_within sealed others c.volumes.done shadow less at, count, c.requires.captures, c.volumes.invariant.told.before)
 
 pub volumes-preserved : goal.volumes-preserved
@@ -32,7 +32,7 @@ volumes-preserved c =
     let shadow = c.index-sealed-done.result in
     let less : c.volumes.done < length sealed = search rules in
     let at : shadow ≡ get_or sealed c.volumes.done shadow = c.index-sealed-done.is ∙ ap (λ (l : List Shadow). get_or l c.volumes.done shadow) c.as_slice-sealed.ensures.value in
-    let count : c.len-count.result ≡ length shadow.captures.items = search rules in
+    let count : c.len-count.result ≡ length shadow.captures.items = omega (arith, c.len-count.ensures, shadow.captures.ok.0) in
     record {
       told = subst (λ (f : ℕ). Told sealed (c.volumes.done + 1) f c.tell.new.facts.items) (sym c.in_ok-first.ensures.next)
           (told_more sealed c.volumes.done c.volumes.first c.volumes.facts.items c.volumes.invariant.told shadow c.len-count.result c.tell.new.facts.items
@@ -43,8 +43,8 @@ pub returns-in_ok-tell-in-Some : goal.returns-in_ok-tell-in-Some
 returns-in_ok-tell-in-Some c =
     let sealed = c.args.self.now.sealed.items in
     let last = c.in-Some.last in
-    let some : c.args.self.now.last ≡ Some last = search rules in
+    let some : c.args.self.now.last ≡ Some last = c.in-Some.is in
     let le : length sealed ≤ c.volumes.done = search rules in
-    let count : c.len-count-in-Some.result ≡ length last.captures.items = search rules in
+    let count : c.len-count-in-Some.result ≡ length last.captures.items = omega (arith, c.len-count-in-Some.ensures, last.captures.ok.0) in
     told_last sealed c.volumes.done c.volumes.first c.volumes.facts.items c.volumes.invariant.told c.args.self.now.last last c.len-count-in-Some.result
     c.tell-in-Some.new.facts.items some le count c.in_ok-tell-in-Some.ensures.told

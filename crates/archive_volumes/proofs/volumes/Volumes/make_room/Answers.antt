@@ -21,13 +21,26 @@ returns-then-needs_volume-clause-room g c =
       born = subst InRange (sym c.in_ok-prepared.ensures.born) c.requires.date;
     }
 
+pub returns-then-needs_volume-clause-decided : goal.returns-then-needs_volume-clause-decided
+returns-then-needs_volume-clause-decided g c = c.if-needs_volume.ensures
+
+pub returns-then-needs_volume-clause-born : goal.returns-then-needs_volume-clause-born
+returns-then-needs_volume-clause-born g c = c.in_ok-prepared.ensures.born
+
+pub returns-then-needs_volume-clause-fits : goal.returns-then-needs_volume-clause-fits
+returns-then-needs_volume-clause-fits g c = omega (arith, c.in_ok-prepared.ensures.prepared.short, c.requires.group)
+
+pub reserve-requires : goal.reserve-requires
+reserve-requires g c = c.if-needs_volume.ensures.0
+
+pub returns-clause-decided : goal.returns-clause-decided
+returns-clause-decided g c = c.if-needs_volume.ensures
+
 pub returns-clause-fits : goal.returns-clause-fits
 returns-clause-fits g c =
     let old = c.args.self.now in
     let book : Book = book_of old.held in
-    let same : last_len c.reserve.new.self.journal ≡ last_len old.journal = ap (λ j. last_len j) c.reserve.ensures.journal in
     ⊎_elim
-    (λ (empty : is_filled book.volumes ≡ false).
-    omega (arith, same, c.requires.group, short_end old.journal book c.requires.measured c.if-needs_volume.ensures.0 empty))
-    (λ (within : last_len old.journal + c.args.group ≤ c.args.limit). omega (arith, same, within, c.requires.limit))
+    (λ (empty : is_filled book.volumes ≡ false). omega (arith, c.requires.group, short_end old.journal book c.requires.measured c.if-needs_volume.ensures.0 empty))
+    (λ (within : last_len old.journal + c.args.group ≤ c.args.limit). omega (arith, within, c.requires.limit))
     c.if-needs_volume.ensures.1

@@ -1,4 +1,4 @@
-use Rattle.std.proofs.Common.{◌≡◌, ◌⊎◌, ℕ, ◌+◌, ◌-◌, ◌^◌, ◌<◌, List, [], ◌∷◌, ◌++◌, length, Option, Some, OnErr, OnOk, sym, ap, subst, ◌∙◌}
+use Rattle.std.proofs.Common.{◌≡◌, ◌⊎◌, ℕ, ◌+◌, ◌-◌, ◌^◌, ◌<◌, List, [], ◌∷◌, ◌++◌, length, Option, Some, OnErr, OnOk, sym, ap, subst, ◌∙◌, inl}
 use Rattle.std.specs.Prelude.{IfOk}
 use Rattle.capture.specs.Captures.{captures}
 use Rattle.capture.specs.declared.book.Book.{Book}
@@ -14,6 +14,7 @@ use Rattle.archive_volumes.specs.Volumes.{Makes, muted}
 use Rattle.archive_volumes.specs.declared.room.Prepared.{Prepared}
 use Rattle.archive_volumes.specs.declared.volumes.Volumes.{Volumes}
 use Rattle.archive_volumes.proofs.ChangeLaws.{DiskLaws, laws_muted}
+use Rattle.archive_volumes.proofs.ExitLaws.{counts_behind, counts_refused, never_ok, not_done, on_refusal}
 use Rattle.archive_volumes.proofs.StoreLaws.{done_is, left_ready, stays_refused, writes_at, writes_behind, writes_none}
 use Rattle.archive_volumes.proofs.WrittenLaws.{texts_at, texts_behind, texts_none}
 use Rattle.archive_volumes.proofs.volumes.Volumes.write.Given.{Over}
@@ -44,7 +45,76 @@ begin-requires-clause-number g c = (can_begin c.args.self.now c.args.prepared c.
 pub begin-requires-clause-born : goal.begin-requires-clause-born
 begin-requires-clause-born g c = (can_begin c.args.self.now c.args.prepared c.in-Some.prepared c.in-Some.is c.requires.room).born
 
+pub begin-requires-clause-holds : goal.begin-requires-clause-holds
+begin-requires-clause-holds g c = c.requires.holds
+
+pub begin-requires-clause-measured : goal.begin-requires-clause-measured
+begin-requires-clause-measured g c = c.requires.measured
+
+-- ---- it is refused
+
+pub returns-in_err-begin-in-Some-clause-stored : goal.returns-in_err-begin-in-Some-clause-stored
+returns-in_err-begin-in-Some-clause-stored g c = never_ok _ c.from_residual.result c.from_residual.ensures.0
+
+pub returns-in_err-begin-in-Some-clause-left : goal.returns-in_err-begin-in-Some-clause-left
+returns-in_err-begin-in-Some-clause-left g c = on_refusal c.from_residual.result (inl c.in_err-begin-in-Some.ensures.book)
+
+pub returns-in_err-begin-in-Some-clause-holds : goal.returns-in_err-begin-in-Some-clause-holds
+returns-in_err-begin-in-Some-clause-holds g c = c.begin.ensures.holds
+
+pub returns-in_err-begin-in-Some-clause-measured : goal.returns-in_err-begin-in-Some-clause-measured
+returns-in_err-begin-in-Some-clause-measured g c = c.begin.ensures.measured
+
+pub returns-in_err-begin-in-Some-clause-place : goal.returns-in_err-begin-in-Some-clause-place
+returns-in_err-begin-in-Some-clause-place g c = not_done _ c.from_residual.result c.from_residual.ensures.0
+
+pub returns-in_err-begin-in-Some-clause-last_len : goal.returns-in_err-begin-in-Some-clause-last_len
+returns-in_err-begin-in-Some-clause-last_len g c = never_ok _ c.from_residual.result c.from_residual.ensures.0
+
+pub returns-in_err-begin-in-Some-clause-text : goal.returns-in_err-begin-in-Some-clause-text
+returns-in_err-begin-in-Some-clause-text g c tells = never_ok _ c.from_residual.result c.from_residual.ensures.0
+
+pub returns-in_err-begin-in-Some-clause-texts_left : goal.returns-in_err-begin-in-Some-clause-texts_left
+returns-in_err-begin-in-Some-clause-texts_left g c tells = on_refusal c.from_residual.result (inl (c.in_err-begin-in-Some.ensures.texts tells))
+
+pub returns-in_err-begin-in-Some-clause-others : goal.returns-in_err-begin-in-Some-clause-others
+returns-in_err-begin-in-Some-clause-others g c = c.begin.ensures.others
+
+pub returns-in_err-begin-in-Some-clause-faults : goal.returns-in_err-begin-in-Some-clause-faults
+returns-in_err-begin-in-Some-clause-faults g c =
+    let d = g.D.Disk in
+    counts_refused (d.faults (disk_of c.args.self.now.journal)) (d.faults (disk_of c.begin.new.self.journal)) c.in_err-begin-in-Some.field-0.0
+    c.from_residual.result c.from_residual.ensures.0 c.in_err-begin-in-Some.ensures.faults
+
 -- ---- the capture is added behind it
+
+pub add-requires-clause-space : goal.add-requires-clause-space
+add-requires-clause-space g c = c.in_ok-begin-in-Some.ensures.space
+
+pub add-requires-clause-holds : goal.add-requires-clause-holds
+add-requires-clause-holds g c = c.begin.ensures.holds
+
+pub add-requires-clause-measured : goal.add-requires-clause-measured
+add-requires-clause-measured g c = c.begin.ensures.measured
+
+pub add-requires-clause-committed : goal.add-requires-clause-committed
+add-requires-clause-committed g c = c.requires.committed
+
+pub returns-in_ok-begin-in-Some-clause-holds : goal.returns-in_ok-begin-in-Some-clause-holds
+returns-in_ok-begin-in-Some-clause-holds g c = c.add.ensures.holds
+
+pub returns-in_ok-begin-in-Some-clause-measured : goal.returns-in_ok-begin-in-Some-clause-measured
+returns-in_ok-begin-in-Some-clause-measured g c = c.add.ensures.measured
+
+pub returns-in_ok-begin-in-Some-clause-others : goal.returns-in_ok-begin-in-Some-clause-others
+returns-in_ok-begin-in-Some-clause-others g c tells = c.add.ensures.others tells ∙ c.begin.ensures.others tells
+
+pub returns-in_ok-begin-in-Some-clause-faults : goal.returns-in_ok-begin-in-Some-clause-faults
+returns-in_ok-begin-in-Some-clause-faults g c =
+    let d = g.D.Disk in
+    counts_behind (d.faults (disk_of c.args.self.now.journal)) (d.faults (disk_of c.begin.new.self.journal)) (d.faults (disk_of c.add.new.self.journal))
+    c.in_ok-begin-in-Some.field-0 c.add.result c.in_ok-begin-in-Some.ensures.faults c.add.ensures.faults
+
 pub add-requires-clause-group : goal.add-requires-clause-group
 add-requires-clause-group g c told =
     let book : Book = book_of c.args.self.now.held in
@@ -123,6 +193,15 @@ returns-in_ok-begin-in-Some-clause-texts_left g c tells =
 pub add-requires-in-None-clause-space : goal.add-requires-in-None-clause-space
 add-requires-in-None-clause-space g c = subst (λ (o : Option Prepared). HasRoomFor c.args.self.now o) c.in-None.is c.requires.room
 
+pub add-requires-in-None-clause-holds : goal.add-requires-in-None-clause-holds
+add-requires-in-None-clause-holds g c = c.requires.holds
+
+pub add-requires-in-None-clause-measured : goal.add-requires-in-None-clause-measured
+add-requires-in-None-clause-measured g c = c.requires.measured
+
+pub add-requires-in-None-clause-committed : goal.add-requires-in-None-clause-committed
+add-requires-in-None-clause-committed g c = c.requires.committed
+
 pub add-requires-in-None-clause-group : goal.add-requires-in-None-clause-group
 add-requires-in-None-clause-group g c told =
     let book : Book = book_of c.args.self.now.held in
@@ -196,6 +275,18 @@ returns-in-None-clause-texts_left g c tells =
     ap (λ (o : Option Prepared). texts_with (texts g.D.Disk c.args.self.now.journal) o) c.in-None.is in
     subst (λ (t : List (List ℕ)). OnErr c.add-in-None.result ((now ≡ texts g.D.Disk c.args.self.now.journal) ⊎ (now ≡ t))) (sym all)
     (left_ready c.add-in-None.result now (texts g.D.Disk c.args.self.now.journal) (texts g.D.Disk c.args.self.now.journal) (with_more (texts g.D.Disk c.args.self.now.journal) c.args.group.now) (c.add-in-None.ensures.texts tells))
+
+pub returns-in-None-clause-holds : goal.returns-in-None-clause-holds
+returns-in-None-clause-holds g c = c.add-in-None.ensures.holds
+
+pub returns-in-None-clause-measured : goal.returns-in-None-clause-measured
+returns-in-None-clause-measured g c = c.add-in-None.ensures.measured
+
+pub returns-in-None-clause-others : goal.returns-in-None-clause-others
+returns-in-None-clause-others g c = c.add-in-None.ensures.others
+
+pub returns-in-None-clause-faults : goal.returns-in-None-clause-faults
+returns-in-None-clause-faults g c = c.add-in-None.ensures.faults
 
 -- ---- what is left on the disk
 
