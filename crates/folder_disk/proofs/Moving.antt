@@ -5,54 +5,15 @@ use denote.Param.Send.{IsSend, sendable}
 use denote.Param.SendFields.{declared_send, variants_send, as_row_send}
 use Rattle.std.proofs.Crossing.{crosses}
 use Rattle.std.specs.declared.fmt.Display.{Ghosts as Displays}
-use Rattle.shown.specs.contracts.shown.Shown as shown
 use Rattle.folder_model.specs.declared.folder.Folder.{Ghosts as Folders}
 use Rattle.folder_model.specs.declared.folders.Folders.{Ghosts as Places}
-use Rattle.folder_model.specs.contracts.timed.Timed as timed
-use Rattle.folder_disk.specs.declared.names.FileNames.{Ghosts as Names}
-use Rattle.folder_disk.specs.contracts.trust.Trust as trust
-use Rattle.folder_disk.specs.contracts.open_files.OpenFiles as files
-use Rattle.folder_disk.specs.contracts.held.Held as held
+use Rattle.folder_files.proofs.Moving.{files_send, held_send}
+use Rattle.folder_files.specs.declared.names.FileNames.{Ghosts as Names}
 use Rattle.folder_disk.specs.contracts.standing.Standing as standing
 use Rattle.folder_disk.specs.contracts.folder_disk.FolderDisk as disk
 use Rattle.folder_disk.specs.contracts.folder_disk.FolderDisk.TheInside as inside
 use Rattle.folder_disk.specs.contracts.reading.Reading as reading
 use Rattle.folder_disk.specs.contracts.reader.FolderReader as reader
-
-shown_send : (T : RattleType) → IsSend (shown.the_row T)
-shown_send T = search (sendable, crosses) depth 40
-
-timed_send : (F T : RattleType) → IsSend F → IsSend (timed.the_row F T)
-timed_send F T f = let w = shown_send in search (sendable, crosses) depth 40
-
-trust_send : IsSend trust.the_row
-trust_send = search (sendable, crosses) depth 40
-
-files_send : (T : RattleType) → IsSend T → IsSend (files.the_row T)
-files_send T t = search (sendable, crosses) depth 40
-
--- a fact for each field, in their order
-held_send : (F N T P : RattleType) → IsSend F → IsSend T → IsSend (held.the_row F N T P)
-held_send F N T P f t =
-    declared_send (held.the_type F N T P) (
-      timed_send F T f,
-      (
-        search (sendable, crosses) depth 20,
-        (
-          search sendable depth 20,
-          (
-            search sendable depth 20,
-            (
-              trust_send,
-              (
-                files_send T t,
-                (search (sendable, crosses) depth 20, tt),
-              ),
-            ),
-          ),
-        ),
-      ),
-    )
 
 -- a fact for each variant's fields
 standing_send : (S N F T P : RattleType) → IsSend F → IsSend T → IsSend (standing.the_row S N F T P)
@@ -77,7 +38,7 @@ pub disk_send : (S N F T P : RattleType) (w : Places S.Denot F.Denot T.Denot) (g
 disk_send S N F T P w g n p s f t = let i = inside_send S N F T P w g n p s f t in search (sendable, crosses) depth 20
 
 reading_send : (F N T P : RattleType) → IsSend F → IsSend T → IsSend (reading.the_row F N T P)
-reading_send F N T P f t = search (sendable, crosses) depth 40
+reading_send F N T P f t = let o = files_send T t in search (sendable, crosses) depth 40
 
 pub reader_send : (S N F T P : RattleType) → IsSend S → IsSend F → IsSend T → IsSend (reader.the_row S N F T P)
 reader_send S N F T P s f t = let w = reading_send F N T P f t in search (sendable, crosses) depth 40

@@ -1,17 +1,8 @@
 -- A disk over a folder with its count of faults, as contracts see it.
 use Rattle.std.specs.Prelude.{ℕ, Option, Some, None}
 use Rattle.folder_model.specs.Folder.{FolderPast}
-use Rattle.folder_model.specs.Times.{Times}
-use Rattle.folder_disk.specs.State.{State, no_folder}
-use Rattle.folder_disk.specs.declared.trust.Trust.{Trust}
-
--- the folder that a disk has, and what it knows of it
-pub record InFolder (F : Type 0) : Type 0 where
-  pub folder : F
-  pub warc : ℕ
-  pub cdxj : ℕ
-  pub trust : Trust
-  pub times : Times
+use Rattle.folder_files.specs.Held.{InFolder}
+use Rattle.folder_files.specs.State.{State, no_folder}
 
 pub record Kept (F : Type 0) : Type 0 where
   pub held : Option (InFolder F)

@@ -1,16 +1,10 @@
 pub mod Begun
-pub mod Calls
-pub mod Counting
-pub mod Doubts
+pub mod Found
 pub mod Gaps
-pub mod Held
 pub mod Kept
 pub mod Laws
-pub mod Mending
 pub mod NameTexts
-pub mod OpenFiles
 pub mod Reader
 pub mod Standing
-pub mod State
 pub mod View
 pub mod steps

@@ -2,16 +2,15 @@
 use Rattle.std.specs.Prelude.{ℕ, Option, Some, None, List, ⊤}
 use Rattle.disk_model.specs.declared.kind.Kind.{Kind}
 use Rattle.folder_model.specs.Folder.{FolderPast}
-use Rattle.folder_model.specs.Timed.{times_of}
-use Rattle.folder_disk.specs.Held.{AreHeld}
-use Rattle.folder_disk.specs.Kept.{InFolder, state_in}
-use Rattle.folder_disk.specs.State.{State}
+use Rattle.folder_files.specs.Held.{InFolder, in_folder, AreHeld}
+use Rattle.folder_disk.specs.Kept.{state_in}
+use Rattle.folder_files.specs.State.{State}
 use Rattle.folder_disk.specs.declared.standing.Standing.{Standing}
 use Rattle.folder_disk.specs.declared.standing.Standing.TheVariants.{Held, Absent, Refused}
 
 -- the folder, where there is one
 abbrev pub held_at : {S N F T P : Type 0} → Standing S N F T P → Option (InFolder F)
-held_at (Held held) = Some (record { folder = held.timed.folder; warc = held.warc; cdxj = held.cdxj; trust = held.trust; times = times_of held.timed })
+held_at (Held held) = Some (in_folder held)
 held_at Absent = None
 held_at Refused = None
 

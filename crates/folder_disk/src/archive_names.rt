@@ -3,8 +3,8 @@ ghost use Rattle.std.specs.Prelude.{◌≡◌, ◌≢◌, ◌<◌, ◌^◌, ◌+
 ghost use Rattle.folder_disk.specs.NameTexts as spec;
 ghost use Rattle.folder_disk.specs.steps.NameLaws.{names_apart, name_is_text};
 
-use crate::names::FileNames;
 use disk_model::Kind;
+use folder_files::FileNames;
 use std::alloc::{AllocError, Global};
 use std::fmt;
 use std::fmt::{Display, Formatter};

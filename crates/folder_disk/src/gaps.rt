@@ -3,14 +3,13 @@
 ghost use Rattle.std.specs.Prelude.{◌≡◌, ◌≢◌, ◌<◌, ◌^◌, ◌+◌, None, IsTrue, IfOk, OnOk};
 ghost use Rattle.folder_model.specs.Calls.{MayMake};
 ghost use Rattle.folder_model.specs.Folder.{contents_of, IsUnfailed};
-ghost use Rattle.folder_disk.specs.Counting.{HasBelow, HasNoMore, HasNoMoreOf};
+ghost use Rattle.folder_files.specs.Counting.{HasBelow, HasNoMore, HasNoMoreOf};
 ghost use Rattle.folder_disk.specs.Gaps.{OnlyFills, LeavesFilled};
-ghost use Rattle.folder_disk.specs.State.{IsCounted};
+ghost use Rattle.folder_files.specs.State.{IsCounted};
 
-use crate::counting::{Counts, check_one, check_there, is_there, listed};
-use crate::names::FileNames;
-use crate::reasons::{number_missing, of_dangling_link};
+use crate::reasons::of_dangling_link;
 use disk_model::Kind;
+use folder_files::{Counts, FileNames, check_one, check_there, is_there, listed, number_missing};
 use folder_model::Folder;
 use std::alloc::Global;
 use std::io;

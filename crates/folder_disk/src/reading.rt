@@ -1,13 +1,11 @@
 //! A folder that is held beside others that read.
 ghost use Rattle.std.specs.Prelude.{◌≡◌, IsTrue, IfOk};
 
-use crate::counting::Counts;
 use crate::gaps::count_to_read;
-use crate::names::FileNames;
-use crate::open_files::{OpenFiles, OpenOne};
-use crate::opening::{open_one, read_open};
-use crate::reasons::{check_in_place, unknown};
 use disk_model::Kind;
+use folder_files::{
+    Counts, FileNames, OpenFiles, OpenOne, check_in_place, open_one, read_open, unknown,
+};
 use folder_model::{Access, Folder};
 use std::alloc::Global;
 use std::io;

@@ -9,10 +9,3 @@ pub struct Unopened<S> {
     /// Why it couldn't.
     pub error: io::Error,
 }
-
-/// A folder that was held and isn't used, and why.
-#[derive(Drop)]
-pub(crate) struct Unheld<F> {
-    pub(crate) folder: F,
-    pub(crate) error: io::Error,
-}

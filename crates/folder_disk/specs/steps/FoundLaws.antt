@@ -13,7 +13,7 @@ use Rattle.folder_model.specs.steps.KnownLaws.{reading_is}
 use Rattle.folder_model.specs.steps.ReadingLaws.{each_is_seen}
 use Rattle.folder_disk.specs.Gaps.{IsGap, IsSeenFilled}
 use Rattle.folder_disk.specs.Laws.{CrashedIsImage, LetGoIsRead}
-use Rattle.folder_disk.specs.State.{known_of, reading}
+use Rattle.folder_files.specs.State.{known_of, reading}
 
 no_counts : (kind : Kind) → file_count no_files kind ≡ 0
 unfolding files_of

@@ -1,7 +1,7 @@
 -- Each checkpoint so far is there, and nothing was done but that missing ones were made.
 use Rattle.std.proofs.Common.{IsTrue}
 use Rattle.disk_model.specs.declared.kind.Kind.TheVariants.{Cdxj}
-use Rattle.folder_disk.specs.Counting.{HasBelow}
+use Rattle.folder_files.specs.Counting.{HasBelow}
 use Rattle.folder_disk.specs.Gaps.{OnlyFills}
 use Rattle.folder_disk.proofs.gaps.fill_below.Given as goal
 
