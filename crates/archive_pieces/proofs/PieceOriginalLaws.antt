@@ -26,6 +26,7 @@ use Rattle.warc_scan.specs.Groups.{HasPayloadLen, IsAnswer, IsGroup, IsRevisit, 
 use Rattle.warc_scan.specs.declared.group.Group.{Group}
 use Rattle.warc_scan.specs.declared.group.Revisited.{Revisited}
 use Rattle.volume_scan.proofs.FoundGroups.{group_found, group_is_found, kept_found, revisited_of}
+use Rattle.archive_shelf.specs.Answers.{CountsIf}
 use Rattle.archive_shelf.specs.Comparing.{KeepsWire}
 use Rattle.archive_gathering.proofs.RevisitLaws as revisits
 use Rattle.archive_gathering.specs.Revisits.{IsOriginalOf, RefersToNone}
@@ -41,6 +42,7 @@ use Rattle.archive_reading.specs.declared.kept_group.KeptGroup.TheVariants as ke
 use Rattle.archive_volumes.specs.declared.spot.Form.{Form}
 use Rattle.archive_volumes.specs.declared.spot.Form.TheVariants as forms
 use Rattle.archive_volumes.specs.declared.spot.Spot.{Spot}
+use Rattle.archive_pieces.specs.PieceFaults.{is_take_fault}
 use Rattle.archive_pieces.specs.PieceOriginals.{Agrees, AsksLength, AsksOriginal, ChoosesOriginal, IsFoundOriginal, IsLengthIn, KeepsSoLong, NoneIs, agrees_by, whole_len_by}
 use Rattle.archive_pieces.specs.declared.fault.PieceFault.{PieceFault}
 use Rattle.archive_pieces.specs.declared.fault.PieceFault.TheVariants as pieces
@@ -405,3 +407,33 @@ fault_exit told book mid group candidates number same below fault (Err other) is
       by pieces.DiskFault a = tt
       by (pieces.Damaged at kept found) a = (omega (arith, a.0, below), a.1)
       by pieces.Memory a = tt
+
+-- so is its answer, and the disk's count of faults rises by it alone
+abbrev failed : (T : Type 0) → PieceFault → Result T PieceFault
+failed T fault = Err fault
+
+pub same_faults : (S T : Type 0) (fault : PieceFault) (answer : Result T PieceFault) (first mid now : ℕ) → IsErrAnd answer (λ other. other ≡ fault)
+    → mid ≡ first → CountsIf (is_take_fault (failed S fault)) mid now → CountsIf (is_take_fault answer) first now
+same_faults S T fault (Ok value) first mid now is same counts = absurd is
+same_faults S T fault (Err other) first mid now is same counts =
+    subst (λ (f : PieceFault). CountsIf (is_take_fault (failed T f)) first now) (sym is)
+    (subst (λ (n : ℕ). CountsIf (is_take_fault (failed T fault)) n now) same (by fault counts)) where
+      by : (f : PieceFault) → CountsIf (is_take_fault (failed S f)) mid now → CountsIf (is_take_fault (failed T f)) mid now
+      by (pieces.Full count limit) c = c
+      by pieces.NotAPiece c = c
+      by pieces.DiskFault c = c
+      by (pieces.Damaged at kept _) c = c
+      by pieces.Memory c = c
+
+-- the fault that was met at one capture
+pub asks_exit : (told : Bool) (book : Book) (group : Group) (number : ℕ) (fault : PieceFault) (answer : Result Bool PieceFault)
+    → IsErrAnd answer (λ other. other ≡ fault) → AsksLength told book number (Err fault) → AsksOriginal told book group number answer
+asks_exit told book group number fault (Ok does) is asks = absurd is
+asks_exit told book group number fault (Err other) is asks =
+    subst (λ (f : PieceFault). AsksOriginal told book group number (Err f)) (sym is) (by fault asks) where
+      by : (f : PieceFault) → AsksLength told book number (Err f) → AsksOriginal told book group number (Err f)
+      by (pieces.Full count limit) a = a
+      by pieces.NotAPiece a = a
+      by pieces.DiskFault a = a
+      by (pieces.Damaged at kept _) a = a
+      by pieces.Memory a = a

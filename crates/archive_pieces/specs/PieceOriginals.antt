@@ -50,11 +50,13 @@ pub record IsLengthBy (kept digest : List ℕ) (same : Option Revisited) (cut : 
   pub found_is : found ≡ whole_len_by same cut len
   pub fits : len < 2 ^ 64
 
+abbrev pub IsLengthOf : ℕ → List ℕ → List ℕ → Option Revisited → Bool → ℕ → Result (Option ℕ) PieceFault → Type 0
+IsLengthOf number kept digest same cut len (Ok found) = IsLengthBy kept digest same cut len found
+IsLengthOf number kept digest same cut len (Err fault) = (fault ≡ pieces.Damaged number kept (Some digest)) × (digest ≢ kept)
+
 abbrev pub IsLengthIn : ℕ → List ℕ → KeptGroup → Result (Option ℕ) PieceFault → Type 0
-IsLengthIn number kept (kept_groups.Right bytes outline) (Ok found) =
-    IsLengthBy kept outline.digest outline.same outline.cut outline.payload_len found
-IsLengthIn number kept (kept_groups.Right bytes outline) (Err fault) =
-    (fault ≡ pieces.Damaged number kept (Some outline.digest)) × (outline.digest ≢ kept)
+IsLengthIn number kept (kept_groups.Right bytes outline) result =
+    IsLengthOf number kept outline.digest outline.same outline.cut outline.payload_len result
 IsLengthIn number kept kept_groups.Damaged (Ok found) = ⊥
 IsLengthIn number kept kept_groups.Damaged (Err fault) = fault ≡ pieces.Damaged number kept None
 

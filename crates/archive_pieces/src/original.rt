@@ -1,17 +1,15 @@
 //! The capture to which a piece refers.
-ghost use Rattle.std.specs.Prelude.{◌≡◌, ◌≢◌, ◌<◌, ℕ, IfOk, IsFalse, IsTrue, Some, None, length, slice_get};
-ghost use Rattle.revisit_table.specs.Table.{numbers_of};
+ghost use Rattle.std.specs.Prelude.{◌≡◌, ◌<◌, IfOk, IsFalse, IsTrue, Some, None, length, slice_get};
 ghost use Rattle.warc_journal.specs.Journals.{disk_of};
 ghost use Rattle.archive_shelf.specs.Answers.{CountsIf};
 ghost use Rattle.archive_reading.specs.Bringing.{OnlyReads};
 ghost use Rattle.archive_volumes.specs.Volumes.{CanReadBy};
 ghost use Rattle.archive_volumes.specs.Spots.{AreHeldWhole, MayBeWhole, whole_from};
-ghost use Rattle.archive_reading.specs.Decoding.{TellsFraming};
 ghost use Rattle.archive_volumes.specs.Held.{book_of};
 ghost use Rattle.archive_reading.specs.Rereading.{HaveDigest, IsToldBy};
 ghost use Rattle.archive_volumes.specs.declared.spot.Spot.{Spot as SpotValue};
 ghost use Rattle.archive_pieces.specs.PieceFaults.{is_take_fault};
-ghost use Rattle.archive_pieces.specs.PieceOriginals.{Agrees, AsksLength, AsksOriginal, ChoosesOriginal, FindsOriginal, IsLengthIn, IsNextGroup, agrees_by, whole_len_by};
+ghost use Rattle.archive_pieces.specs.PieceOriginals.{Agrees, AsksLength, AsksOriginal, ChoosesOriginal, FindsOriginal, IsLengthIn, IsLengthOf, IsNextGroup, agrees_by, whole_len_by};
 
 use crate::fault::PieceFault;
 use archive_reading::{KeptGroup, framing_behind, read_group};
@@ -74,23 +72,28 @@ fn whole_len_of(outline: &Outline) -> Option<u64>
     }
 }
 
+/// The same of a group of which this digest is kept.
+fn len_of(number: u32, kept: Digest, outline: &Outline) -> Result<Option<u64>, PieceFault>
+    ensures { IsLengthOf number kept outline.now.digest outline.now.same outline.now.cut outline.now.payload_len result }
+{
+    let found = outline.digest;
+    let _long = outline.payload_len;
+    if found != kept {
+        return Err(PieceFault::Damaged {
+            number,
+            kept,
+            found: Some(found),
+        });
+    }
+    Ok(whole_len_of(outline))
+}
+
 /// The same by what was read of a capture of which this digest is kept.
 fn len_in(number: u32, kept: Digest, read: KeptGroup) -> Result<Option<u64>, PieceFault>
     ensures { IsLengthIn number kept read result }
 {
     match read {
-        KeptGroup::Right { bytes: _, outline } => {
-            let found = outline.digest;
-            let _long = outline.payload_len;
-            if found != kept {
-                return Err(PieceFault::Damaged {
-                    number,
-                    kept,
-                    found: Some(found),
-                });
-            }
-            Ok(whole_len_of(&outline))
-        }
+        KeptGroup::Right { bytes: _, outline } => len_of(number, kept, &outline),
         KeptGroup::Damaged => Err(PieceFault::Damaged {
             number,
             kept,

@@ -1,5 +1,5 @@
 //! A piece that is ready to be written, with all memory that this takes.
-ghost use Rattle.std.specs.Prelude.{◌≡◌, ◌+◌, ◌-◌, ◌^◌, ◌<◌, IfOk, IsFalse, IsTrue, length};
+ghost use Rattle.std.specs.Prelude.{◌≡◌, ◌-◌, ◌^◌, ◌<◌, IfOk, IsFalse, IsTrue, length};
 ghost use Rattle.capture.specs.Captures.{captures};
 ghost use Rattle.archive_gathering.specs.Noting.{referring};
 ghost use Rattle.archive_volumes.specs.Held.{book_of};
@@ -70,33 +70,34 @@ fn refer(stored: Stored, first: Option<u32>) -> Stored
     }
 }
 
-/// The capture of a group with all that is to be kept of it, where it refers to this one, if to any.
-fn ready_group(
-    alloc: Global,
-    text: &[u8],
-    group: Group,
-    first: Option<u32>,
+/// A piece's bytes, and the volume that is begun for its capture, if one is.
+#[derive(Drop)]
+struct Room {
+    text: Bytes,
     prepared: Option<Prepared>,
-) -> Result<Ready, Memory>
-    ensures ready { IfOk result (IsReadyGroup text.now group first) }
-    ensures prepared { IfOk result (λ ready. ready.prepared ≡ prepared) }
+}
+
+/// The capture of a group with all that is to be kept of it, where it refers to this one, if to any.
+fn ready_group(group: Group, first: Option<u32>, room: Room) -> Ready
+    ensures ready { IsReadyGroup room.text group first result }
+    ensures prepared { result.prepared ≡ room.prepared }
 {
-    let text = Vec::from_slice(alloc, text)?;
     let digest = group.digest;
     let layout = Layout {
         record_len: group.first_len,
         head_at: group.head_at,
     };
+    let Room { text, prepared } = room;
     let stored = refer(group.stored, first);
     let known = StoredGhost::of(&stored);
-    Ok(Ready {
+    Ready {
         stored: known,
         spot: Spot::of(stored, digest, 0, 0, 0),
         digest,
-        group: Bytes::of(text),
+        group: text,
         layout,
         prepared,
-    })
+    }
 }
 
 /// Room for the capture of a piece: in the last volume, or in one that is to be begun, born at this time. Nothing is written.
@@ -124,6 +125,26 @@ fn room_for<D: Disk>(
     }
 }
 
+/// The same, with a copy of the piece's bytes.
+fn room_with<D: Disk>(
+    alloc: Global,
+    volumes: &mut Volumes<D>,
+    text: &[u8],
+    begins: Option<u64>,
+) -> Result<Room, Memory>
+    requires measured { IsMeasured volumes.old.journal (book_of volumes.old.held) }
+    requires few { length (captures (book_of volumes.old.held)) < 2 ^ 32 - 1 }
+    requires holds { MayHold (book_of volumes.old.held) begins }
+    ensures text { IfOk result (λ room. room.text ≡ text.now) }
+    ensures room { IfOk result (λ room. MakesRoom volumes.old volumes.new begins room.prepared) }
+    ensures book { book_of volumes.new.held ≡ book_of volumes.old.held }
+    ensures journal { volumes.new.journal ≡ volumes.old.journal }
+{
+    let text = Bytes::of(Vec::from_slice(alloc, text)?);
+    let prepared = room_for(alloc, volumes, begins)?;
+    Ok(Room { text, prepared })
+}
+
 /// The capture of a piece with all memory that it takes to write it, and room for it. Nothing is written.
 pub fn make_piece_ready<D: Disk>(
     alloc: Global,
@@ -141,6 +162,6 @@ pub fn make_piece_ready<D: Disk>(
     ensures book { book_of volumes.new.held ≡ book_of volumes.old.held }
     ensures journal { volumes.new.journal ≡ volumes.old.journal }
 {
-    let prepared = room_for(alloc, volumes, begins)?;
-    ready_group(alloc, text, group, first, prepared)
+    let room = room_with(alloc, volumes, text, begins)?;
+    Ok(ready_group(group, first, room))
 }

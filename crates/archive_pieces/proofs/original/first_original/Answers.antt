@@ -1,12 +1,13 @@
-use Rattle.std.proofs.Common.{Bool, false, true, Ok, ap, arith, get_or, length, subst, ◌∙◌}
+use Rattle.std.proofs.Common.{Bool, false, true, ℕ, Option, Ok, ap, arith, get_or, length, refl, subst, sym, ◌∙◌}
 use Rattle.std.proofs.lemmas.Option.{slice_get_within}
 use Rattle.capture.specs.Captures.{captures}
 use Rattle.capture.specs.declared.book.Book.{Book}
-use Rattle.archive_reading.proofs.BringLaws.{readable_on, reads_then}
+use Rattle.warc_journal.specs.Journals.{disk_of}
+use Rattle.archive_reading.proofs.BringLaws.{readable_on, reads_itself, reads_then}
 use Rattle.archive_volumes.specs.Held.{book_of}
 use Rattle.archive_gathering.specs.Revisits.{IsOriginalOf}
-use Rattle.archive_pieces.specs.PieceOriginals.{AsksOriginal}
-use Rattle.archive_pieces.proofs.PieceOriginalLaws.{fault_exit, found_by, none_more}
+use Rattle.archive_pieces.specs.PieceOriginals.{AsksOriginal, IsNextGroup}
+use Rattle.archive_pieces.proofs.PieceOriginalLaws.{fault_exit, found_by, none_more, same_faults}
 use Rattle.archive_pieces.proofs.original.first_original.Goals as goal
 
 pub is_original-requires-clause-readable : goal.is_original-requires-clause-readable
@@ -16,6 +17,38 @@ is_original-requires-clause-readable g c =
 pub is_original-requires-clause-digest : goal.is_original-requires-clause-digest
 is_original-requires-clause-digest g c spot at =
     c.requires.digest c.loop-candidate.candidate-index spot c.loop-candidate-test.true at
+
+pub is_original-requires-clause-below : goal.is_original-requires-clause-below
+is_original-requires-clause-below g c =
+    let whole = c.requires.whole c.loop-candidate.candidate-index c.loop-candidate-test.true in
+    slice_get_within c.args.spots.now (get_or c.args.candidates.now c.loop-candidate.candidate-index 0) whole.spot whole.placed
+
+pub is_original-requires-clause-group : goal.is_original-requires-clause-group
+is_original-requires-clause-group g c =
+    subst (λ (b : Book). IsNextGroup b c.args.group.now) (sym (ap book_of c.loop-candidate.invariant.reads.held)) c.requires.group
+
+pub loop-candidate-init : goal.loop-candidate-init
+loop-candidate-init g c = record {
+  reads = reads_itself g.D.Disk c.args.volumes.now;
+  faults = refl;
+  none = λ so k less. absurd (omega (arith, less));
+}
+
+pub returns-in_err-is-clause-faults : goal.returns-in_err-is-clause-faults
+returns-in_err-is-clause-faults g c =
+    let d = g.D.Disk in
+    same_faults Bool (Option ℕ) c.in_err-is.field-0.0 c.from_residual.result (d.faults (disk_of c.args.volumes.now.journal))
+    (d.faults (disk_of c.loop-candidate.volumes.journal)) (d.faults (disk_of c.is_original.new.volumes.journal)) c.from_residual.ensures.1
+    c.loop-candidate.invariant.faults c.in_err-is.ensures.faults
+
+pub returns-then-is-clause-faults : goal.returns-then-is-clause-faults
+returns-then-is-clause-faults g c = c.in_ok-is.ensures.faults ∙ c.loop-candidate.invariant.faults
+
+pub returns-clause-reads : goal.returns-clause-reads
+returns-clause-reads g c = c.loop-candidate.invariant.reads
+
+pub returns-clause-faults : goal.returns-clause-faults
+returns-clause-faults g c = c.loop-candidate.invariant.faults
 
 pub returns-in_err-is-clause-chooses : goal.returns-in_err-is-clause-chooses
 returns-in_err-is-clause-chooses g c =

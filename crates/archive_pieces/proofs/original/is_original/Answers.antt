@@ -1,10 +1,12 @@
-use Rattle.std.proofs.Common.{Ok, Some, ap, subst, sym, ◌∙◌}
+use Rattle.std.proofs.Common.{Bool, ℕ, Option, Ok, Some, ap, length, refl, subst, sym, ◌∙◌}
 use Rattle.std.proofs.lemmas.Option.{slice_get-get_or}
-use Rattle.warc_journal.specs.Journals.{texts}
+use Rattle.capture.specs.Captures.{captures}
+use Rattle.warc_journal.specs.Journals.{disk_of, texts}
+use Rattle.archive_reading.proofs.BringLaws.{reads_itself}
 use Rattle.archive_volumes.specs.Held.{book_of}
 use Rattle.archive_volumes.specs.declared.spot.Spot.{Spot}
 use Rattle.archive_pieces.specs.PieceOriginals.{AsksLength}
-use Rattle.archive_pieces.proofs.PieceOriginalLaws.{answers_by, original_named}
+use Rattle.archive_pieces.proofs.PieceOriginalLaws.{answers_by, asks_exit, original_keeps, original_named, same_faults}
 use Rattle.archive_pieces.proofs.original.is_original.Goals as goal
 
 pub returns-then-not-is_named-clause-asks : goal.returns-then-not-is_named-clause-asks
@@ -26,3 +28,24 @@ returns-in_ok-does-in-Some-clause-asks g c =
     (c.requires.digest spot at) (c.is_named.ensures.met c.if-not-is_named.false) c.in-Some.len
     (subst (λ found. AsksLength told book c.args.number (Ok found)) c.in-Some.is c.in_ok-len.ensures.asks)
     c.in_ok-does-in-Some.does c.in_ok-does-in-Some.ensures
+
+pub returns-then-not-is_named-clause-reads : goal.returns-then-not-is_named-clause-reads
+returns-then-not-is_named-clause-reads g c = reads_itself g.D.Disk c.args.volumes.now
+
+pub returns-in_err-len-clause-asks : goal.returns-in_err-len-clause-asks
+returns-in_err-len-clause-asks g c =
+    asks_exit c.args.told.now.value (book_of c.args.volumes.now.held) c.args.group.now c.args.number c.in_err-len.field-0.0 c.from_residual.result
+    c.from_residual.ensures.1 c.in_err-len.ensures.asks
+
+pub returns-in_err-len-clause-faults : goal.returns-in_err-len-clause-faults
+returns-in_err-len-clause-faults g c =
+    let d = g.D.Disk in
+    let before = d.faults (disk_of c.args.volumes.now.journal) in
+    same_faults (Option ℕ) Bool c.in_err-len.field-0.0 c.from_residual.result before before (d.faults (disk_of c.whole_len.new.volumes.journal))
+    c.from_residual.ensures.1 refl c.in_err-len.ensures.faults
+
+pub returns-in-None-clause-asks : goal.returns-in-None-clause-asks
+returns-in-None-clause-asks g c told of =
+    let book = book_of c.args.volumes.now.held in
+    subst (λ found. AsksLength c.args.told.now.value book c.args.number (Ok found)) c.in-None.is c.in_ok-len.ensures.asks told
+    (original_keeps book (length (captures book)) c.args.group.now c.args.number of)
