@@ -1,7 +1,7 @@
 -- A capture that meets what a revisit tells is the one that it refers to, and the one that it refers to meets it.
-use Rattle.std.proofs.Common.{◌≡◌, ◌≢◌, ℕ, zero, suc, ◌+◌, ◌^◌, ◌<◌, true, List, [], ◌∷◌, length, Ok, refl, sym, ap, subst, ◌∙◌, arith}
+use Rattle.std.proofs.Common.{◌≡◌, ◌≢◌, ℕ, zero, suc, ◌+◌, ◌^◌, ◌<◌, ◌≤◌, true, List, [], ◌∷◌, length, Ok, refl, sym, ap, subst, ◌∙◌, ⊎_elim, arith}
 use Rattle.std.specs.Prelude.{Contains, IfNone, false, not, Option, Some, None, Result, slice_get, slice_index_or, unwrap_or}
-use Rattle.std.proofs.lemmas.Bool.{false≢true}
+use Rattle.std.proofs.lemmas.Bool.{cases_lt, false≢true}
 use Rattle.std.proofs.lemmas.List.Elements.{Contains-get_or}
 use Rattle.std.proofs.lemmas.Option.{same_Some, slice_get_within}
 use Rattle.httparse.specs.Grammar.{ResponseHead}
@@ -30,7 +30,7 @@ use Rattle.archive_gathering.proofs.MeasuringLaws.{one_head}
 use Rattle.archive_gathering.proofs.KnownLaws.{read_at}
 use Rattle.archive_gathering.specs.Gathering.{AreAllRead, GroupWasRead, TellsOf}
 use Rattle.archive_gathering.specs.Measuring.{Agrees, TellsLength}
-use Rattle.archive_gathering.specs.Originals.{IsMet}
+use Rattle.archive_gathering.specs.Originals.{IsMatch, IsMet}
 use Rattle.archive_gathering.specs.Revisits.{HasItsOriginal, IsOriginalOf, MayRefer}
 use Rattle.archive_volumes.specs.Spots.{IsPlaced, IsSpotOf, MayBeWholeAt, form_of, is_same_form, is_told_form, may_be_whole, whole_from}
 use Rattle.archive_volumes.specs.declared.spot.Form.{Form}
@@ -94,6 +94,39 @@ met_is_whole spots digest candidates is number has =
     let one = from_numbers 0 spots digest number (subst (λ (l : List ℕ). Contains l number) is has) in
     let at : one.place ≡ number = omega (arith, one.number_is) in
     record { spot = one.spot; placed = subst (λ (n : ℕ). slice_get spots n ≡ Some one.spot) at one.at; whole = one.whole }
+
+-- ---- the first one
+
+-- what stands within a list is the same whatever would stand behind it
+same_default : (xs : List ℕ) (k d e : ℕ) → k < length xs → slice_index_or xs k d ≡ slice_index_or xs k e
+same_default [] k d e less = absurd (omega (arith, less))
+same_default (x ∷ xs) zero d e less = refl
+same_default (x ∷ xs) (suc k) d e less = same_default xs k d e (omega (arith, less))
+
+module _ (namespace : List ℕ) (same : Revisited) (told : Told) (candidates : List ℕ) (spots : List Spot) (lengths : List ℕ) (at : ℕ)
+    (none : (k : ℕ) → k < at → IsMet namespace same told candidates spots lengths (slice_index_or candidates k 0) → ⊥) where
+  -- the next candidate isn't the one either
+  pub none_further : (spot : Spot) → slice_get spots (slice_index_or candidates at 0) ≡ Some spot
+      → (IsMatch namespace same told (slice_index_or candidates at 0) spot (slice_index_or lengths (slice_index_or candidates at 0) 0) → ⊥)
+      → (k : ℕ) → k < at + 1 → IsMet namespace same told candidates spots lengths (slice_index_or candidates k 0) → ⊥
+  none_further spot placed missed k less met =
+      ⊎_elim (λ (before : k < at). none k before met)
+      (λ (behind : at ≤ k).
+      let number : ℕ = slice_index_or candidates at 0 in
+      let here : IsMet namespace same told candidates spots lengths number =
+      subst (λ (n : ℕ). IsMet namespace same told candidates spots lengths (slice_index_or candidates n 0)) (last k less behind) met in
+      missed (subst (λ (s : Spot). IsMatch namespace same told number s (slice_index_or lengths number 0))
+      (one_at (slice_get spots number) here.spot spot here.kept placed) here.matches))
+      (cases_lt k at) where
+        last : (j : ℕ) → j < at + 1 → at ≤ j → j ≡ at
+        last j less behind = omega (arith, less, behind)
+
+  -- nor any behind the last one
+  pub none_at_all : length candidates ≤ at → (number : ℕ) → IsMet namespace same told candidates spots lengths number → ⊥
+  none_at_all all number met =
+      none met.one.0 (omega (arith, met.one.1, all))
+      (subst (λ (n : ℕ). IsMet namespace same told candidates spots lengths n)
+      (sym met.one.2 ∙ same_default candidates met.one.0 number 0 met.one.1) met)
 
 -- ---- lengths
 

@@ -5,6 +5,7 @@ use Rattle.capture.specs.Captures.{captures}
 use Rattle.capture.specs.declared.book.Book.{Book}
 use Rattle.capture.specs.declared.captured.Kept.TheVariants.{Wire, Same}
 use Rattle.capture.specs.declared.captured.Stored.{Stored}
+use Rattle.cdxj_index.specs.Facts.{Facts}
 use Rattle.warc_journal.specs.declared.place.Place.{Place}
 use Rattle.warc_scan.specs.Groups.{IsGroup}
 use Rattle.warc_scan.specs.declared.group.Group.{Group}
@@ -52,6 +53,18 @@ record_at place group = record {
   volume = place.volume;
   offset = place.at;
   len = group.first_len;
+}
+
+-- what is noted of a capture whose record and head stand there, with a payload of this length, and this entry
+abbrev pub noted_by : Stored → RecordAt → ℕ → ℕ → Option Facts → Noted
+noted_by stored at head_at len entry = record {
+  stored = stored;
+  digest = at.digest;
+  volume = at.volume;
+  at = at.offset;
+  head_at = head_at;
+  length = len;
+  entry = entry;
 }
 
 -- what is noted of a group whose capture has this head

@@ -1,9 +1,9 @@
 //! What is noted of a group that was found.
-ghost use Rattle.std.specs.Prelude.{◌≡◌, ◌+◌, ◌^◌, ◌<◌, IfOk, IsFalse, IsTrue};
+ghost use Rattle.std.specs.Prelude.{◌≡◌, ◌+◌, ◌^◌, ◌<◌, IfOk, IsFalse, IsTrue, Ok};
 ghost use Rattle.http_head.specs.Heads.{HoldsResponseParts};
 ghost use Rattle.httparse.specs.Grammar as grammar;
 ghost use Rattle.warc_scan.specs.Headed.{HasItsParts};
-ghost use Rattle.archive_gathering.specs.Noting.{IsNoted, IsPast, IsSomeGroup, IsWithin, referring};
+ghost use Rattle.archive_gathering.specs.Noting.{IsNoted, IsPast, IsSomeGroup, IsWithin, noted_by, referring};
 
 use archive_volumes::{RecordAt, entry_of};
 use capture::{Digest, Kept, Memory, Stored, wires_have_one_payload};
@@ -82,16 +82,36 @@ pub(crate) fn note(
     let head_at = place.at + group.head_at;
     let length = group.payload_len;
     let stored = refer(group.stored, first);
-    let entry = entry_of(alloc, &stored, &url, &head, at)?;
-    Ok(Noted {
-        stored,
-        digest,
-        volume: place.volume,
-        at: place.at,
-        head_at,
-        length,
-        entry,
-    })
+    let entry = entry_of(alloc, &stored, &url, &head, at);
+    noted_of(stored, at, head_at, length, entry)
+}
+
+/// What is noted of a capture whose record and head stand there, with its entry, if there was memory for that.
+///
+/// By value, so that the group's other parts are let go in one place.
+fn noted_of(
+    stored: Stored,
+    at: RecordAt,
+    head_at: u64,
+    payload_len: u64,
+    entry: Result<Option<Entry>, Memory>,
+) -> Result<Noted, Memory>
+    ensures entered { IfOk result (λ noted. entry ≡ Ok noted.entry) }
+    ensures made { IfOk result (λ noted. noted ≡ noted_by stored at head_at payload_len noted.entry) }
+{
+    let digest = at.digest;
+    match entry {
+        Ok(entry) => Ok(Noted {
+            stored,
+            digest,
+            volume: at.volume,
+            at: at.offset,
+            head_at,
+            length: payload_len,
+            entry,
+        }),
+        Err(Memory) => Err(Memory),
+    }
 }
 
 /// The capture, which refers to this one, if to any.

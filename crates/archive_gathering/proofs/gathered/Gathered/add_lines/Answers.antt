@@ -1,7 +1,9 @@
-use Rattle.std.proofs.Common.{◌≡◌, ◌+◌, ◌<◌, [], ◌∷◌, ◌++◌, ℕ, List, length, map, sym, ap, subst, ◌∙◌, arith, append_assoc}
+use Rattle.std.proofs.Common.{◌≡◌, ◌+◌, ◌<◌, [], ◌∷◌, ◌++◌, ℕ, List, length, map, refl, sym, ap, subst, ◌∙◌, arith, append-nil, append_assoc}
 use Rattle.std.specs.Prelude.{All}
 use Rattle.std.specs.Vec.Iter.{into_iter_items}
+use Rattle.std.proofs.lemmas.List.{nil_from_length}
 use Rattle.std.proofs.lemmas.List.Elements.{All-head, All-tail}
+use Rattle.capture.specs.Captures.{captures}
 use Rattle.cdxj_line.specs.Lines.{IsWritable}
 use Rattle.cdxj_line.specs.declared.line.Line.{Line}
 use Rattle.archive_volumes.specs.Held.{book_of}
@@ -73,3 +75,60 @@ lines-preserved c =
           (subst (λ o. HasAddedLine was is (capture_by o line) line) known added)
           (record { come = comes.come; left = subst (λ (l : List Line). AreLinesIn b texts l) left comes.left });
     }
+
+pub lines-init : goal.lines-init
+lines-init c =
+    let was = c.args.self.now in
+    let items = c.into_iter-rest.ensures.rest in
+    let P : Line → Type 0 = λ l. l.volume + 1 ≡ length (book_of was.held).volumes in
+    record {
+      steady = c.requires.steady;
+      volumes = refl;
+      sealed = refl;
+      namespace = refl;
+      count = ap (λ (l : List Line). length (captures (book_of was.held)) + length l) items;
+      next = subst (AreNext (length was.spots.items) c.args.len) (sym items) c.requires.next;
+      writable = subst (All IsWritable) (sym items) c.requires.writable;
+      of_volume = subst (All P) (sym items) c.requires.of_volume;
+      filled = λ filled. filled;
+      last = λ less. absurd (omega (arith, less, ap length items));
+      spots = ap (λ (l : List Line). was.spots.items ++ map (λ (x : Line). told_spot x) l) items;
+      numbered = λ are. are;
+      requested = λ are. are;
+      within = λ texts within placed. (within, subst (ArePlacedIn texts) (sym items) placed);
+      made = λ none made. made;
+      told = λ b texts known so are. record {
+        come = record { now = texts; so_far = so; count = refl; others = λ k less. refl };
+        left = subst (λ (l : List Line). AreLinesIn b texts l) (sym items) are;
+      };
+    }
+
+pub returns-clause-more : goal.returns-clause-more
+returns-clause-more c =
+    let none = nil_from_length (into_iter_items c.lines.rest) (sym c.lines.rest.rest.ok.0 ∙ c.in_default.ensures.cases.0) in
+    let so = c.lines.invariant in
+    record {
+      captures_are = omega (arith, so.count, ap length none);
+      volumes = so.volumes;
+      sealed = so.sealed;
+      namespace = so.namespace;
+      filled = so.filled;
+      last = λ less. so.last (omega (arith, less, ap length none));
+      numbered = so.numbered;
+      requested = so.requested;
+    }
+
+pub returns-clause-spots : goal.returns-clause-spots
+returns-clause-spots c =
+    let none = nil_from_length (into_iter_items c.lines.rest) (sym c.lines.rest.rest.ok.0 ∙ c.in_default.ensures.cases.0) in
+    let spots = c.lines.self.spots.items in
+    sym (append-nil spots) ∙ ap (λ (l : List Line). spots ++ map (λ (x : Line). told_spot x) l) (sym none) ∙ c.lines.invariant.spots
+
+pub returns-clause-within : goal.returns-clause-within
+returns-clause-within c = λ texts within placed. (c.lines.invariant.within texts within placed).0
+
+pub returns-clause-made : goal.returns-clause-made
+returns-clause-made c = c.lines.invariant.made
+
+pub returns-clause-told : goal.returns-clause-told
+returns-clause-told c = λ b texts known so are. (c.lines.invariant.told b texts known so are).come
