@@ -13,7 +13,7 @@ overflow_cast-count c =
     let shadow = c.index-sealed-done.result in
     let less : c.volumes.done < length sealed = search rules in
     let at : shadow ≡ get_or sealed c.volumes.done shadow = c.index-sealed-done.is ∙ ap (λ (l : List Shadow). get_or l c.volumes.done shadow) c.as_slice-sealed.ensures.value in
-    let count : c.len-count.result ≡ length shadow.captures.items = omega (arith, c.len-count.ensures, shadow.captures.ok.0) in
+    let count : c.len-count.result ≡ length shadow.captures.items = search rules in
     omega (arith, sum_within sealed others c.volumes.done shadow less at, count, c.requires.captures)
 
 pub tell-requires-clause-small : goal.tell-requires-clause-small
@@ -23,7 +23,7 @@ tell-requires-clause-small c =
     let shadow = c.index-sealed-done.result in
     let less : c.volumes.done < length sealed = search rules in
     let at : shadow ≡ get_or sealed c.volumes.done shadow = c.index-sealed-done.is ∙ ap (λ (l : List Shadow). get_or l c.volumes.done shadow) c.as_slice-sealed.ensures.value in
-    let count : c.len-count.result ≡ length shadow.captures.items = omega (arith, c.len-count.ensures, shadow.captures.ok.0) in
+    let count : c.len-count.result ≡ length shadow.captures.items = search rules in
     omega (arith, sum_within sealed others c.volumes.done shadow less at, count, c.requires.captures, c.volumes.invariant.told.before)
 
 pub volumes-preserved : goal.volumes-preserved
@@ -32,7 +32,7 @@ volumes-preserved c =
     let shadow = c.index-sealed-done.result in
     let less : c.volumes.done < length sealed = search rules in
     let at : shadow ≡ get_or sealed c.volumes.done shadow = c.index-sealed-done.is ∙ ap (λ (l : List Shadow). get_or l c.volumes.done shadow) c.as_slice-sealed.ensures.value in
-    let count : c.len-count.result ≡ length shadow.captures.items = omega (arith, c.len-count.ensures, shadow.captures.ok.0) in
+    let count : c.len-count.result ≡ length shadow.captures.items = search rules in
     record {
       told = subst (λ (f : ℕ). Told sealed (c.volumes.done + 1) f c.tell.new.facts.items) (sym c.in_ok-first.ensures.next)
           (told_more sealed c.volumes.done c.volumes.first c.volumes.facts.items c.volumes.invariant.told shadow c.len-count.result c.tell.new.facts.items
