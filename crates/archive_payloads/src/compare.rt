@@ -24,7 +24,7 @@ use archive_reading::{
 };
 use archive_shelf::{Looked, StoreFault};
 use archive_volumes::{Spot, Volumes};
-use capture::{Bytes, Digest, Framing, captures_have_one_payload, wires_have_one_payload};
+use capture::{Bytes, Digest, Framing};
 use digest32::payload_digest;
 use disk_model::Disk;
 use message_body::Slices;
@@ -210,8 +210,6 @@ fn compare_with<D: Disk>(
     ensures reads { OnlyReads D.Disk volumes.old volumes.new }
     ensures faults { CountsIf (is_read_fault result) (D.faults (disk_of volumes.old.journal)) (D.faults (disk_of volumes.new.journal)) }
 {
-    wires_have_one_payload();
-    captures_have_one_payload();
     let head = read_part(alloc, volumes, spot.head_place())?;
     let kept = match framing_behind(alloc, spot.method.as_slice(), head.as_slice())? {
         Some(kept) => kept,
@@ -374,8 +372,6 @@ pub fn look_on_wire<D: Disk>(
     ensures reads { OnlyReads D.Disk volumes.old volumes.new }
     ensures faults { CountsIf (is_look_fault result) (D.faults (disk_of volumes.old.journal)) (D.faults (disk_of volumes.new.journal)) }
 {
-    captures_have_one_payload();
-    wires_have_one_payload();
     let upto = spots.len() as u32;
     if has_no_bytes(framing, wire) {
         return Ok(Looked { upto, same: None });

@@ -147,3 +147,68 @@ returns-in-None-clause-found g c tells =
     let here = got c.args.spots.now c.args.number spot c.requires.below c.index-spots-number.is in
     line_found (texts g.D.Disk c.args.volumes.now.journal) (book_of c.args.volumes.now.held).namespace c.args.spots.now c.args.number spot here
     (sym c.is_same.ensures ∙ c.if-not-is_same.false) c.bring_told.result (c.bring_told.ensures.digest spot here)
+
+-- ---- what is asked, and what stays at each exit
+
+pub bring_own-requires-clause-readable : goal.bring_own-requires-clause-readable
+bring_own-requires-clause-readable g c = c.requires.readable
+
+pub bring_own-requires-clause-below : goal.bring_own-requires-clause-below
+bring_own-requires-clause-below g c = c.requires.below
+
+pub bring_same-requires-clause-readable : goal.bring_same-requires-clause-readable
+bring_same-requires-clause-readable g c = c.requires.readable
+
+pub bring_same-requires-clause-below : goal.bring_same-requires-clause-below
+bring_same-requires-clause-below g c = c.requires.below
+
+pub bring_told-requires-clause-readable : goal.bring_told-requires-clause-readable
+bring_told-requires-clause-readable g c = c.requires.readable
+
+pub bring_told-requires-clause-below : goal.bring_told-requires-clause-below
+bring_told-requires-clause-below g c = c.requires.below
+
+pub bring_told-requires-clause-rising : goal.bring_told-requires-clause-rising
+bring_told-requires-clause-rising g c = c.candidates-candidates.ensures.rising
+
+pub returns-then-not-is_same-clause-brings : goal.returns-then-not-is_same-clause-brings
+returns-then-not-is_same-clause-brings g c = c.bring_own.ensures.brings
+
+pub returns-then-not-is_same-clause-there : goal.returns-then-not-is_same-clause-there
+returns-then-not-is_same-clause-there g c = c.bring_own.ensures.there
+
+pub returns-then-not-is_same-clause-found : goal.returns-then-not-is_same-clause-found
+returns-then-not-is_same-clause-found g c = c.bring_own.ensures.found
+
+pub returns-then-not-is_same-clause-reads : goal.returns-then-not-is_same-clause-reads
+returns-then-not-is_same-clause-reads g c = c.bring_own.ensures.reads
+
+pub returns-then-not-is_same-clause-faults : goal.returns-then-not-is_same-clause-faults
+returns-then-not-is_same-clause-faults g c = c.bring_own.ensures.faults
+
+pub returns-in-Some-clause-brings : goal.returns-in-Some-clause-brings
+returns-in-Some-clause-brings g c = c.bring_same.ensures.brings
+
+pub returns-in-Some-clause-own : goal.returns-in-Some-clause-own
+returns-in-Some-clause-own g c = c.bring_same.ensures.own
+
+pub returns-in-Some-clause-found : goal.returns-in-Some-clause-found
+returns-in-Some-clause-found g c = c.bring_same.ensures.found
+
+pub returns-in-Some-clause-reads : goal.returns-in-Some-clause-reads
+returns-in-Some-clause-reads g c = c.bring_same.ensures.reads
+
+pub returns-in-Some-clause-faults : goal.returns-in-Some-clause-faults
+returns-in-Some-clause-faults g c = c.bring_same.ensures.faults
+
+pub returns-in-None-clause-brings : goal.returns-in-None-clause-brings
+returns-in-None-clause-brings g c = c.bring_told.ensures.brings
+
+pub returns-in-None-clause-there : goal.returns-in-None-clause-there
+returns-in-None-clause-there g c = c.bring_told.ensures.there
+
+pub returns-in-None-clause-reads : goal.returns-in-None-clause-reads
+returns-in-None-clause-reads g c = c.bring_told.ensures.reads
+
+pub returns-in-None-clause-faults : goal.returns-in-None-clause-faults
+returns-in-None-clause-faults g c = c.bring_told.ensures.faults

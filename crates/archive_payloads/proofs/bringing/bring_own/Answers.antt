@@ -1,9 +1,11 @@
+use Rattle.archive_payloads.specs.Damage.{TellsFound}
+use Rattle.archive_payloads.proofs.FaultLaws.{read_brought, read_exit}
 use Rattle.archive_volumes.specs.declared.spot.Spot.{Spot}
 use Rattle.archive_reading.proofs.RereadLaws.{own_brought_there}
 use Rattle.archive_reading.specs.Rereading.{IsBackThere, IsBroughtThere}
-use Rattle.warc_journal.specs.Journals.{texts}
-use Rattle.std.proofs.Common.{IsTrue, Ok, refl, sym, subst, inl, arith}
-use Rattle.std.specs.Prelude.{slice_get, ◌≡◌, Some}
+use Rattle.warc_journal.specs.Journals.{texts, disk_of}
+use Rattle.std.proofs.Common.{IsTrue, Ok, refl, sym, subst, inl, arith, ℕ}
+use Rattle.std.specs.Prelude.{slice_get, ◌≡◌, Some, IfErr, IfOk}
 use Rattle.capture.specs.declared.captured.Brought.{Brought}
 use Rattle.archive_reading.proofs.BringLaws.{damaged, named, own_brought, replayable}
 use Rattle.archive_payloads.proofs.DamageLaws.{keeper_found}
@@ -14,6 +16,7 @@ use Rattle.archive_reading.specs.Digests.{GoesByOwn}
 use Rattle.archive_volumes.specs.Held.{book_of}
 use Rattle.archive_volumes.specs.Spots.{IsSpotOf}
 use Rattle.archive_reading.specs.declared.payload.ReadBack.{ReadBack}
+use Rattle.archive_reading.specs.declared.part.ReadFault.TheVariants as reads
 use Rattle.archive_payloads.proofs.bringing.bring_own.Goals as goal
 
 pub returns-in_ok-brought-in-Right-clause-brings : goal.returns-in_ok-brought-in-Right-clause-brings
@@ -73,3 +76,74 @@ returns-in-Damaged-clause-found g c tells =
     let here : slice_get c.args.spots.now c.args.number ≡ Some spot = got c.args.spots.now c.args.number spot c.requires.below c.index-spots-number.is in
     keeper_found all namespace c.args.spots.now c.args.number spot here c.args.number spot here (c.requires.own spot here) refl c.in-Damaged.found
     (subst (IsBackThere all c.args.spots.now namespace c.args.number spot) c.in-Damaged.is (c.in_ok-read.ensures.there tells spot here))
+
+-- ---- what is asked, and what stays at each exit
+
+pub read_own-requires-clause-readable : goal.read_own-requires-clause-readable
+read_own-requires-clause-readable g c = c.requires.readable
+
+pub read_own-requires-clause-below : goal.read_own-requires-clause-below
+read_own-requires-clause-below g c = c.requires.below
+
+pub read_own-requires-clause-own : goal.read_own-requires-clause-own
+read_own-requires-clause-own g c = c.requires.own
+
+pub returns-in_err-read-clause-brings : goal.returns-in_err-read-clause-brings
+returns-in_err-read-clause-brings g c =
+    read_exit Brought (BringsFrom c.args.told.now.value (book_of c.args.volumes.now.held) c.args.number) c.in_err-read.field-0.0 c.from_residual.result c.from_residual.ensures.1 tt tt
+
+pub returns-in_err-read-clause-digest : goal.returns-in_err-read-clause-digest
+returns-in_err-read-clause-digest g c other at =
+    read_exit Brought (GoesByOwn c.args.number other.digest) c.in_err-read.field-0.0 c.from_residual.result c.from_residual.ensures.1 tt tt
+
+pub returns-in_err-read-clause-there : goal.returns-in_err-read-clause-there
+returns-in_err-read-clause-there g c tells other at =
+    read_exit Brought (λ r. IfOk r (IsBroughtThere (texts g.D.Disk c.args.volumes.now.journal) (book_of c.args.volumes.now.held).namespace c.args.number other)) c.in_err-read.field-0.0 c.from_residual.result c.from_residual.ensures.1 tt tt
+
+pub returns-in_err-read-clause-found : goal.returns-in_err-read-clause-found
+returns-in_err-read-clause-found g c tells =
+    read_exit Brought (λ r. IfErr r (TellsFound (texts g.D.Disk c.args.volumes.now.journal) (book_of c.args.volumes.now.held).namespace c.args.spots.now c.args.number)) c.in_err-read.field-0.0 c.from_residual.result c.from_residual.ensures.1 tt tt
+
+pub returns-in_err-read-clause-reads : goal.returns-in_err-read-clause-reads
+returns-in_err-read-clause-reads g c =
+    c.read_own.ensures.reads
+
+pub returns-in_err-read-clause-faults : goal.returns-in_err-read-clause-faults
+returns-in_err-read-clause-faults g c =
+    read_brought ReadBack Brought (g.D.Disk.faults (disk_of c.args.volumes.now.journal)) (g.D.Disk.faults (disk_of c.read_own.new.volumes.journal)) c.in_err-read.field-0.0 c.from_residual.result c.from_residual.ensures.1 c.in_err-read.ensures.faults
+
+pub returns-in_err-brought-in-Right-clause-brings : goal.returns-in_err-brought-in-Right-clause-brings
+returns-in_err-brought-in-Right-clause-brings g c =
+    read_exit Brought (BringsFrom c.args.told.now.value (book_of c.args.volumes.now.held) c.args.number) reads.Memory c.from_residual-in_err-brought-in-Right.result c.from_residual-in_err-brought-in-Right.ensures.1 tt tt
+
+pub returns-in_err-brought-in-Right-clause-digest : goal.returns-in_err-brought-in-Right-clause-digest
+returns-in_err-brought-in-Right-clause-digest g c other at =
+    read_exit Brought (GoesByOwn c.args.number other.digest) reads.Memory c.from_residual-in_err-brought-in-Right.result c.from_residual-in_err-brought-in-Right.ensures.1 tt tt
+
+pub returns-in_err-brought-in-Right-clause-there : goal.returns-in_err-brought-in-Right-clause-there
+returns-in_err-brought-in-Right-clause-there g c tells other at =
+    read_exit Brought (λ r. IfOk r (IsBroughtThere (texts g.D.Disk c.args.volumes.now.journal) (book_of c.args.volumes.now.held).namespace c.args.number other)) reads.Memory c.from_residual-in_err-brought-in-Right.result c.from_residual-in_err-brought-in-Right.ensures.1 tt tt
+
+pub returns-in_err-brought-in-Right-clause-found : goal.returns-in_err-brought-in-Right-clause-found
+returns-in_err-brought-in-Right-clause-found g c tells =
+    read_exit Brought (λ r. IfErr r (TellsFound (texts g.D.Disk c.args.volumes.now.journal) (book_of c.args.volumes.now.held).namespace c.args.spots.now c.args.number)) reads.Memory c.from_residual-in_err-brought-in-Right.result c.from_residual-in_err-brought-in-Right.ensures.1 tt tt
+
+pub returns-in_err-brought-in-Right-clause-reads : goal.returns-in_err-brought-in-Right-clause-reads
+returns-in_err-brought-in-Right-clause-reads g c =
+    c.read_own.ensures.reads
+
+pub returns-in_err-brought-in-Right-clause-faults : goal.returns-in_err-brought-in-Right-clause-faults
+returns-in_err-brought-in-Right-clause-faults g c =
+    read_brought ℕ Brought (g.D.Disk.faults (disk_of c.args.volumes.now.journal)) (g.D.Disk.faults (disk_of c.read_own.new.volumes.journal)) reads.Memory c.from_residual-in_err-brought-in-Right.result c.from_residual-in_err-brought-in-Right.ensures.1 (c.in_ok-read.ensures.faults)
+
+pub returns-in_ok-brought-in-Right-clause-reads : goal.returns-in_ok-brought-in-Right-clause-reads
+returns-in_ok-brought-in-Right-clause-reads g c = c.read_own.ensures.reads
+
+pub returns-in_ok-brought-in-Right-clause-faults : goal.returns-in_ok-brought-in-Right-clause-faults
+returns-in_ok-brought-in-Right-clause-faults g c = c.in_ok-read.ensures.faults
+
+pub returns-in-Damaged-clause-reads : goal.returns-in-Damaged-clause-reads
+returns-in-Damaged-clause-reads g c = c.read_own.ensures.reads
+
+pub returns-in-Damaged-clause-faults : goal.returns-in-Damaged-clause-faults
+returns-in-Damaged-clause-faults g c = c.in_ok-read.ensures.faults

@@ -1,8 +1,11 @@
+use Rattle.archive_payloads.specs.Damage.{TellsFound}
+use Rattle.archive_payloads.proofs.FaultLaws.{counts_behind, read_brought, read_exit}
+use Rattle.archive_shelf.specs.Answers.{is_bring_fault}
 use Rattle.std.proofs.Common.{◌≡◌, ℕ, IsTrue, true, List, Option, None, Some, Ok, refl, sym, ap, subst, ◌∙◌, inl, inr, arith}
-use Rattle.std.specs.Prelude.{IfSome}
+use Rattle.std.specs.Prelude.{IfSome, IfErr, IfOk}
 use Rattle.capture.specs.declared.book.Book.{Book}
 use Rattle.capture.specs.declared.captured.Brought.{Brought}
-use Rattle.warc_journal.specs.Journals.{texts}
+use Rattle.warc_journal.specs.Journals.{texts, disk_of}
 use Rattle.archive_reading.proofs.BringLaws.{damaged, damaged_read, has_head, keeper_keeps, keeps_payload, named, no_digest, readable_on, reads_itself, reads_then, refers_to, replayable, right_read, same_brought}
 use Rattle.archive_payloads.proofs.DamageLaws.{found_on, keeper_found, other_found, revisit_found}
 use Rattle.archive_reading.proofs.DigestLaws.{alike, differ, keeper_goes, one_spot, same_digest}
@@ -15,6 +18,7 @@ use Rattle.archive_reading.specs.Rereading.{IsBackThere}
 use Rattle.archive_volumes.specs.Spots.{head_in, is_same_form}
 use Rattle.archive_reading.specs.declared.payload.ReadBack.{ReadBack}
 use Rattle.archive_volumes.specs.declared.spot.Spot.{Spot}
+use Rattle.archive_reading.specs.declared.part.ReadFault.TheVariants as reads
 use Rattle.archive_payloads.proofs.bringing.bring_same.Goals as goal
 
 pub bounds-spots-first : goal.bounds-spots-first
@@ -248,3 +252,85 @@ returns-in-Err-clause-found g c tells =
     (found_on g.D.Disk c.args.volumes.now later c.read_head.ensures.reads tells c.args.spots.now c.args.first keeper c.in-Err.found
     (subst (IsBackThere (texts g.D.Disk later.journal) c.args.spots.now (book_of later.held).namespace c.args.first keeper) damaged_is
     (c.in_ok-read.ensures.there tells keeper there)))
+
+-- ---- what is asked, and what stays at each exit
+
+pub read_head-requires-clause-in_step : goal.read_head-requires-clause-in_step
+read_head-requires-clause-in_step g c = c.requires.readable.holds.in_step
+
+pub returns-in_err-head-clause-brings : goal.returns-in_err-head-clause-brings
+returns-in_err-head-clause-brings g c =
+    read_exit Brought (BringsFrom c.args.told.now.value (book_of c.args.volumes.now.held) c.args.number) c.in_err-head.field-0.0 c.from_residual.result c.from_residual.ensures.1 tt tt
+
+pub returns-in_err-head-clause-digest : goal.returns-in_err-head-clause-digest
+returns-in_err-head-clause-digest g c other at =
+    read_exit Brought (GoesByKeeper c.args.number c.args.first other.digest) c.in_err-head.field-0.0 c.from_residual.result c.from_residual.ensures.1 tt tt
+
+pub returns-in_err-head-clause-own : goal.returns-in_err-head-clause-own
+returns-in_err-head-clause-own g c other at =
+    read_exit Brought (BringsDigest other.digest) c.in_err-head.field-0.0 c.from_residual.result c.from_residual.ensures.1 tt tt
+
+pub returns-in_err-head-clause-found : goal.returns-in_err-head-clause-found
+returns-in_err-head-clause-found g c tells =
+    read_exit Brought (λ r. IfErr r (TellsFound (texts g.D.Disk c.args.volumes.now.journal) (book_of c.args.volumes.now.held).namespace c.args.spots.now c.args.number)) c.in_err-head.field-0.0 c.from_residual.result c.from_residual.ensures.1 tt tt
+
+pub returns-in_err-head-clause-reads : goal.returns-in_err-head-clause-reads
+returns-in_err-head-clause-reads g c =
+    c.read_head.ensures.reads
+
+pub returns-in_err-head-clause-faults : goal.returns-in_err-head-clause-faults
+returns-in_err-head-clause-faults g c =
+    read_brought (Option (List ℕ)) Brought (g.D.Disk.faults (disk_of c.args.volumes.now.journal)) (g.D.Disk.faults (disk_of c.read_head.new.volumes.journal)) c.in_err-head.field-0.0 c.from_residual.result c.from_residual.ensures.1 c.in_err-head.ensures.faults
+
+pub returns-in-None-clause-reads : goal.returns-in-None-clause-reads
+returns-in-None-clause-reads g c = c.read_head.ensures.reads
+
+pub returns-in-None-clause-faults : goal.returns-in-None-clause-faults
+returns-in-None-clause-faults g c = c.in_ok-head.ensures.faults
+
+pub returns-in_err-read-clause-brings : goal.returns-in_err-read-clause-brings
+returns-in_err-read-clause-brings g c =
+    read_exit Brought (BringsFrom c.args.told.now.value (book_of c.args.volumes.now.held) c.args.number) c.in_err-read.field-0.0 c.from_residual-in_err-read.result c.from_residual-in_err-read.ensures.1 tt tt
+
+pub returns-in_err-read-clause-digest : goal.returns-in_err-read-clause-digest
+returns-in_err-read-clause-digest g c other at =
+    read_exit Brought (GoesByKeeper c.args.number c.args.first other.digest) c.in_err-read.field-0.0 c.from_residual-in_err-read.result c.from_residual-in_err-read.ensures.1 tt tt
+
+pub returns-in_err-read-clause-own : goal.returns-in_err-read-clause-own
+returns-in_err-read-clause-own g c other at =
+    read_exit Brought (BringsDigest other.digest) c.in_err-read.field-0.0 c.from_residual-in_err-read.result c.from_residual-in_err-read.ensures.1 tt tt
+
+pub returns-in_err-read-clause-found : goal.returns-in_err-read-clause-found
+returns-in_err-read-clause-found g c tells =
+    read_exit Brought (λ r. IfErr r (TellsFound (texts g.D.Disk c.args.volumes.now.journal) (book_of c.args.volumes.now.held).namespace c.args.spots.now c.args.number)) c.in_err-read.field-0.0 c.from_residual-in_err-read.result c.from_residual-in_err-read.ensures.1 tt tt
+
+pub returns-in_err-read-clause-faults : goal.returns-in_err-read-clause-faults
+returns-in_err-read-clause-faults g c =
+    counts_behind (is_bring_fault c.from_residual-in_err-read.result) (g.D.Disk.faults (disk_of c.args.volumes.now.journal)) (g.D.Disk.faults (disk_of c.read_head.new.volumes.journal)) (g.D.Disk.faults (disk_of c.read_own.new.volumes.journal)) c.in_ok-head.ensures.faults
+    (read_brought ReadBack Brought (g.D.Disk.faults (disk_of c.read_head.new.volumes.journal)) (g.D.Disk.faults (disk_of c.read_own.new.volumes.journal)) c.in_err-read.field-0.0 c.from_residual-in_err-read.result c.from_residual-in_err-read.ensures.1 c.in_err-read.ensures.faults)
+
+pub returns-in_err-brought-in-Ok-clause-brings : goal.returns-in_err-brought-in-Ok-clause-brings
+returns-in_err-brought-in-Ok-clause-brings g c =
+    read_exit Brought (BringsFrom c.args.told.now.value (book_of c.args.volumes.now.held) c.args.number) reads.Memory c.from_residual-in_err-brought-in-Ok.result c.from_residual-in_err-brought-in-Ok.ensures.1 tt tt
+
+pub returns-in_err-brought-in-Ok-clause-digest : goal.returns-in_err-brought-in-Ok-clause-digest
+returns-in_err-brought-in-Ok-clause-digest g c other at =
+    read_exit Brought (GoesByKeeper c.args.number c.args.first other.digest) reads.Memory c.from_residual-in_err-brought-in-Ok.result c.from_residual-in_err-brought-in-Ok.ensures.1 tt tt
+
+pub returns-in_err-brought-in-Ok-clause-own : goal.returns-in_err-brought-in-Ok-clause-own
+returns-in_err-brought-in-Ok-clause-own g c other at =
+    read_exit Brought (BringsDigest other.digest) reads.Memory c.from_residual-in_err-brought-in-Ok.result c.from_residual-in_err-brought-in-Ok.ensures.1 tt tt
+
+pub returns-in_err-brought-in-Ok-clause-found : goal.returns-in_err-brought-in-Ok-clause-found
+returns-in_err-brought-in-Ok-clause-found g c tells =
+    read_exit Brought (λ r. IfErr r (TellsFound (texts g.D.Disk c.args.volumes.now.journal) (book_of c.args.volumes.now.held).namespace c.args.spots.now c.args.number)) reads.Memory c.from_residual-in_err-brought-in-Ok.result c.from_residual-in_err-brought-in-Ok.ensures.1 tt tt
+
+pub returns-in_err-brought-in-Ok-clause-faults : goal.returns-in_err-brought-in-Ok-clause-faults
+returns-in_err-brought-in-Ok-clause-faults g c =
+    read_brought ℕ Brought (g.D.Disk.faults (disk_of c.args.volumes.now.journal)) (g.D.Disk.faults (disk_of c.read_own.new.volumes.journal)) reads.Memory c.from_residual-in_err-brought-in-Ok.result c.from_residual-in_err-brought-in-Ok.ensures.1 (c.in_ok-read.ensures.faults ∙ c.in_ok-head.ensures.faults)
+
+pub returns-in_ok-brought-in-Ok-clause-faults : goal.returns-in_ok-brought-in-Ok-clause-faults
+returns-in_ok-brought-in-Ok-clause-faults g c = c.in_ok-read.ensures.faults ∙ c.in_ok-head.ensures.faults
+
+pub returns-in-Err-clause-faults : goal.returns-in-Err-clause-faults
+returns-in-Err-clause-faults g c = c.in_ok-read.ensures.faults ∙ c.in_ok-head.ensures.faults

@@ -1,12 +1,14 @@
+use Rattle.archive_payloads.proofs.FaultLaws.{counts_behind, read_brought, read_exit}
+use Rattle.archive_shelf.specs.Answers.{CountsIf, is_bring_fault}
 use Rattle.archive_volumes.specs.declared.spot.Spot.{Spot}
 use Rattle.archive_volumes.specs.Spots.{is_same_form}
 use Rattle.archive_reading.proofs.RereadLaws.{revisit_read, same_brought_there}
 use Rattle.std.proofs.Common.{◌≡◌, true, ℕ, Bool, IsTrue, List, Option, None, Ok, Err, Result, refl, sym, ap, subst, ◌∙◌, inl, arith}
-use Rattle.std.specs.Prelude.{IfSome}
+use Rattle.std.specs.Prelude.{IfSome, IfOk}
 use Rattle.sha1.specs.Sha1.{sha1}
 use Rattle.capture.specs.declared.book.Book.{Book}
 use Rattle.capture.specs.declared.captured.Brought.{Brought}
-use Rattle.warc_journal.specs.Journals.{texts}
+use Rattle.warc_journal.specs.Journals.{texts, disk_of}
 use Rattle.archive_shelf.specs.declared.fault.BringFault.{BringFault}
 use Rattle.archive_shelf.specs.declared.fault.BringFault.TheVariants as brings
 use Rattle.archive_reading.proofs.BringLaws.{damaged, named, no_digest, readable_on, reads_then, replayable}
@@ -20,6 +22,7 @@ use Rattle.archive_reading.specs.Digests.{GoesByLine}
 use Rattle.archive_volumes.specs.Held.{book_of}
 use Rattle.archive_reading.specs.Rereading.{HasItsPayload, IsFirstTold, IsReread, IsRereadOf, IsSameOf, IsBroughtThere, IsRereadThere}
 use Rattle.archive_reading.specs.declared.reread.Reread.{Reread}
+use Rattle.archive_reading.specs.declared.part.ReadFault.TheVariants as reads
 use Rattle.archive_payloads.proofs.bringing.bring_told.Goals as goal
 
 -- damage under its own number
@@ -138,3 +141,86 @@ returns-in_ok-brought-in-Some-found-clause-there g c tells other at =
     (one_spot c.args.spots.now c.args.number spot other here at)
     (same_brought_there all c.args.spots.now namespace c.args.number spot c.in-Some.revisit.head c.in-Some-found.payload c.in-Some.revisit.same (ap is_same_form (c.requires.form spot here))
     (subst (IsRereadThere all c.args.spots.now namespace c.args.number spot) (revisit_read c.in_ok-read.read c.in-Some.revisit (sym c.revisit_in.ensures ∙ c.in-Some.is)) (c.in_ok-read.ensures.there tells spot here))))
+
+-- ---- what is asked, and what stays at each exit
+
+pub reread_group-requires-clause-readable : goal.reread_group-requires-clause-readable
+reread_group-requires-clause-readable g c = c.requires.readable
+
+pub reread_group-requires-clause-below : goal.reread_group-requires-clause-below
+reread_group-requires-clause-below g c = c.requires.below
+
+pub returns-in_err-read-clause-brings : goal.returns-in_err-read-clause-brings
+returns-in_err-read-clause-brings g c =
+    read_exit Brought (BringsFrom c.args.told.now.value (book_of c.args.volumes.now.held) c.args.number) c.in_err-read.field-0.0 c.from_residual.result c.from_residual.ensures.1 tt tt
+
+pub returns-in_err-read-clause-digest : goal.returns-in_err-read-clause-digest
+returns-in_err-read-clause-digest g c other at =
+    read_exit Brought (GoesByLine c.args.number other.digest) c.in_err-read.field-0.0 c.from_residual.result c.from_residual.ensures.1 tt tt
+
+pub returns-in_err-read-clause-there : goal.returns-in_err-read-clause-there
+returns-in_err-read-clause-there g c tells other at =
+    read_exit Brought (λ r. IfOk r (IsBroughtThere (texts g.D.Disk c.args.volumes.now.journal) (book_of c.args.volumes.now.held).namespace c.args.number other)) c.in_err-read.field-0.0 c.from_residual.result c.from_residual.ensures.1 tt tt
+
+pub returns-in_err-read-clause-reads : goal.returns-in_err-read-clause-reads
+returns-in_err-read-clause-reads g c =
+    c.reread_group.ensures.reads
+
+pub returns-in_err-read-clause-faults : goal.returns-in_err-read-clause-faults
+returns-in_err-read-clause-faults g c =
+    read_brought Reread Brought (g.D.Disk.faults (disk_of c.args.volumes.now.journal)) (g.D.Disk.faults (disk_of c.reread_group.new.volumes.journal)) c.in_err-read.field-0.0 c.from_residual.result c.from_residual.ensures.1 c.in_err-read.ensures.faults
+
+pub returns-in_err-found-clause-brings : goal.returns-in_err-found-clause-brings
+returns-in_err-found-clause-brings g c =
+    read_exit Brought (BringsFrom c.args.told.now.value (book_of c.args.volumes.now.held) c.args.number) c.in_err-found.field-0.0 c.from_residual-in_err-found.result c.from_residual-in_err-found.ensures.1 tt tt
+
+pub returns-in_err-found-clause-digest : goal.returns-in_err-found-clause-digest
+returns-in_err-found-clause-digest g c other at =
+    read_exit Brought (GoesByLine c.args.number other.digest) c.in_err-found.field-0.0 c.from_residual-in_err-found.result c.from_residual-in_err-found.ensures.1 tt tt
+
+pub returns-in_err-found-clause-there : goal.returns-in_err-found-clause-there
+returns-in_err-found-clause-there g c tells other at =
+    read_exit Brought (λ r. IfOk r (IsBroughtThere (texts g.D.Disk c.args.volumes.now.journal) (book_of c.args.volumes.now.held).namespace c.args.number other)) c.in_err-found.field-0.0 c.from_residual-in_err-found.result c.from_residual-in_err-found.ensures.1 tt tt
+
+pub returns-in_err-found-clause-faults : goal.returns-in_err-found-clause-faults
+returns-in_err-found-clause-faults g c =
+    counts_behind (is_bring_fault c.from_residual-in_err-found.result) (g.D.Disk.faults (disk_of c.args.volumes.now.journal)) (g.D.Disk.faults (disk_of c.reread_group.new.volumes.journal)) (g.D.Disk.faults (disk_of c.original_payload.new.volumes.journal)) c.in_ok-read.ensures.faults
+    (read_brought (Option (List ℕ)) Brought (g.D.Disk.faults (disk_of c.reread_group.new.volumes.journal)) (g.D.Disk.faults (disk_of c.original_payload.new.volumes.journal)) c.in_err-found.field-0.0 c.from_residual-in_err-found.result c.from_residual-in_err-found.ensures.1 c.in_err-found.ensures.faults)
+
+pub returns-in_err-brought-in-Some-found-clause-brings : goal.returns-in_err-brought-in-Some-found-clause-brings
+returns-in_err-brought-in-Some-found-clause-brings g c =
+    read_exit Brought (BringsFrom c.args.told.now.value (book_of c.args.volumes.now.held) c.args.number) reads.Memory c.from_residual-in_err-brought-in-Some-found.result c.from_residual-in_err-brought-in-Some-found.ensures.1 tt tt
+
+pub returns-in_err-brought-in-Some-found-clause-digest : goal.returns-in_err-brought-in-Some-found-clause-digest
+returns-in_err-brought-in-Some-found-clause-digest g c other at =
+    read_exit Brought (GoesByLine c.args.number other.digest) reads.Memory c.from_residual-in_err-brought-in-Some-found.result c.from_residual-in_err-brought-in-Some-found.ensures.1 tt tt
+
+pub returns-in_err-brought-in-Some-found-clause-there : goal.returns-in_err-brought-in-Some-found-clause-there
+returns-in_err-brought-in-Some-found-clause-there g c tells other at =
+    read_exit Brought (λ r. IfOk r (IsBroughtThere (texts g.D.Disk c.args.volumes.now.journal) (book_of c.args.volumes.now.held).namespace c.args.number other)) reads.Memory c.from_residual-in_err-brought-in-Some-found.result c.from_residual-in_err-brought-in-Some-found.ensures.1 tt tt
+
+pub returns-in_err-brought-in-Some-found-clause-faults : goal.returns-in_err-brought-in-Some-found-clause-faults
+returns-in_err-brought-in-Some-found-clause-faults g c =
+    read_brought ℕ Brought (g.D.Disk.faults (disk_of c.args.volumes.now.journal)) (g.D.Disk.faults (disk_of c.original_payload.new.volumes.journal)) reads.Memory c.from_residual-in_err-brought-in-Some-found.result c.from_residual-in_err-brought-in-Some-found.ensures.1 (c.in_ok-found.ensures.faults ∙ c.in_ok-read.ensures.faults)
+
+pub returns-in_ok-brought-in-Some-found-clause-faults : goal.returns-in_ok-brought-in-Some-found-clause-faults
+returns-in_ok-brought-in-Some-found-clause-faults g c = c.in_ok-found.ensures.faults ∙ c.in_ok-read.ensures.faults
+
+pub returns-in-None-clause-there : goal.returns-in-None-clause-there
+returns-in-None-clause-there g c tells other at =
+    subst (λ r. IfOk r (IsBroughtThere (texts g.D.Disk c.args.volumes.now.journal) (book_of c.args.volumes.now.held).namespace c.args.number other)) (sym c.not_as_told.ensures) tt
+
+pub returns-in-None-clause-reads : goal.returns-in-None-clause-reads
+returns-in-None-clause-reads g c = c.reread_group.ensures.reads
+
+pub returns-in-None-clause-faults : goal.returns-in-None-clause-faults
+returns-in-None-clause-faults g c =
+    subst (λ r. CountsIf (is_bring_fault r) (g.D.Disk.faults (disk_of c.args.volumes.now.journal)) (g.D.Disk.faults (disk_of c.reread_group.new.volumes.journal))) (sym c.not_as_told.ensures) (c.in_ok-read.ensures.faults)
+
+pub returns-in-None-found-clause-there : goal.returns-in-None-found-clause-there
+returns-in-None-found-clause-there g c tells other at =
+    subst (λ r. IfOk r (IsBroughtThere (texts g.D.Disk c.args.volumes.now.journal) (book_of c.args.volumes.now.held).namespace c.args.number other)) (sym c.not_as_told-in-None-found.ensures) tt
+
+pub returns-in-None-found-clause-faults : goal.returns-in-None-found-clause-faults
+returns-in-None-found-clause-faults g c =
+    subst (λ r. CountsIf (is_bring_fault r) (g.D.Disk.faults (disk_of c.args.volumes.now.journal)) (g.D.Disk.faults (disk_of c.original_payload.new.volumes.journal))) (sym c.not_as_told-in-None-found.ensures) (c.in_ok-found.ensures.faults ∙ c.in_ok-read.ensures.faults)

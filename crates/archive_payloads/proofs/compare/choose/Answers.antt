@@ -1,12 +1,13 @@
+use Rattle.archive_payloads.proofs.FaultLaws.{counts_behind, looked_on, not_done}
 use Rattle.archive_reading.proofs.RereadLaws.{chosen_on}
-use Rattle.std.proofs.Common.{Option, ℕ, false, Ok, get_or, refl, ap, subst, ◌∙◌, arith}
+use Rattle.std.proofs.Common.{Option, ℕ, false, Ok, get_or, refl, ap, subst, ◌∙◌, arith, Bool}
 use Rattle.capture.specs.declared.book.Book.{Book}
-use Rattle.warc_journal.specs.Journals.{texts}
+use Rattle.warc_journal.specs.Journals.{texts, disk_of}
 use Rattle.archive_shelf.specs.Comparing.{HasWhole}
-use Rattle.archive_reading.proofs.BringLaws.{made_on, readable_on, reads_then}
+use Rattle.archive_reading.proofs.BringLaws.{made_on, readable_on, reads_then, reads_itself}
 use Rattle.archive_payloads.proofs.ChooseLaws.{none_more}
 use Rattle.archive_payloads.proofs.DamageLaws.{damage_exit, damage_on, passed_more, passed_on}
-use Rattle.archive_payloads.specs.Choosing.{Asks}
+use Rattle.archive_payloads.specs.Choosing.{Asks, is_look_fault}
 use Rattle.archive_volumes.specs.Held.{book_of}
 use Rattle.archive_payloads.proofs.compare.choose.Goals as goal
 
@@ -70,3 +71,40 @@ returns-then-has-clause-passes g c payload is =
 pub returns-clause-passes : goal.returns-clause-passes
 returns-clause-passes g c payload is k less =
     c.loop-candidate.invariant.passed payload is k (omega (arith, less, c.loop-candidate-test.false))
+
+-- ---- what is asked, and what stays at each exit
+
+pub has_payload-requires-clause-whole : goal.has_payload-requires-clause-whole
+has_payload-requires-clause-whole g c =
+    c.requires.whole c.loop-candidate.candidate-index (omega (arith, c.loop-candidate-test.true))
+
+pub loop-candidate-init : goal.loop-candidate-init
+loop-candidate-init g c =
+    record {
+      reads = reads_itself g.D.Disk c.args.volumes.now;
+      faults = refl;
+      none = λ payload is told k less. absurd (omega (arith, less));
+      passed = λ payload is k less. absurd (omega (arith, less));
+    }
+
+pub returns-in_err-has-clause-there : goal.returns-in_err-has-clause-there
+returns-in_err-has-clause-there g c tells payload is =
+    not_done _ c.from_residual.result c.from_residual.ensures.0
+
+pub returns-in_err-has-clause-passes : goal.returns-in_err-has-clause-passes
+returns-in_err-has-clause-passes g c payload is =
+    not_done _ c.from_residual.result c.from_residual.ensures.0
+
+pub returns-in_err-has-clause-faults : goal.returns-in_err-has-clause-faults
+returns-in_err-has-clause-faults g c =
+    counts_behind (is_look_fault c.from_residual.result) (g.D.Disk.faults (disk_of c.args.volumes.now.journal)) (g.D.Disk.faults (disk_of c.loop-candidate.volumes.journal)) (g.D.Disk.faults (disk_of c.has_payload.new.volumes.journal)) c.loop-candidate.invariant.faults
+    (looked_on Bool (Option ℕ) (g.D.Disk.faults (disk_of c.loop-candidate.volumes.journal)) (g.D.Disk.faults (disk_of c.has_payload.new.volumes.journal)) c.in_err-has.field-0.0 c.from_residual.result c.from_residual.ensures.1 c.in_err-has.ensures.faults)
+
+pub returns-then-has-clause-faults : goal.returns-then-has-clause-faults
+returns-then-has-clause-faults g c = c.in_ok-has.ensures.faults ∙ c.loop-candidate.invariant.faults
+
+pub returns-clause-reads : goal.returns-clause-reads
+returns-clause-reads g c = c.loop-candidate.invariant.reads
+
+pub returns-clause-faults : goal.returns-clause-faults
+returns-clause-faults g c = c.loop-candidate.invariant.faults

@@ -1,7 +1,8 @@
-use Rattle.warc_journal.specs.Journals.{texts}
+use Rattle.archive_payloads.proofs.FaultLaws.{look_exit, not_done, read_looked}
+use Rattle.warc_journal.specs.Journals.{texts, disk_of}
 use Rattle.std.proofs.Common.{Bool, Err, IsTrue, ap, inl, inr, sym, subst, ◌∙◌}
 use Rattle.std.proofs.lemmas.Bool.{false≢true}
-use Rattle.std.specs.Prelude.{IsFalse}
+use Rattle.std.specs.Prelude.{IsFalse, IfErr}
 use Rattle.archive_shelf.specs.Comparing.{KeepsWire}
 use Rattle.archive_shelf.specs.declared.fault.StoreFault.TheVariants as stores
 use Rattle.archive_payloads.proofs.AskLaws.{cut_asked, damage_asked, revisit_asked, whole_asked}
@@ -129,3 +130,56 @@ returns-in-Same-clause-passes g c payload is lacks other at =
       λ tells. absurd (no_revisit_there all c.args.spots.now namespace c.args.number other (ap is_same_form (c.requires.form other at)) _ _
           (subst (IsRereadThere all c.args.spots.now namespace c.args.number other) c.in-Same.is (c.in_ok-read.ensures.there tells other at))),
     )
+
+-- ---- what is asked, and what stays at each exit
+
+pub reread_group-requires-clause-readable : goal.reread_group-requires-clause-readable
+reread_group-requires-clause-readable g c = c.requires.readable
+
+pub returns-in_err-read-clause-asks : goal.returns-in_err-read-clause-asks
+returns-in_err-read-clause-asks g c payload is =
+    look_exit Bool (Asks c.args.told.now.value (book_of c.args.volumes.now.held) c.args.number payload) c.in_err-read.field-0.0 c.from_residual.result c.from_residual.ensures.1 tt tt
+
+pub returns-in_err-read-clause-there : goal.returns-in_err-read-clause-there
+returns-in_err-read-clause-there g c tells payload is =
+    not_done _ c.from_residual.result c.from_residual.ensures.0
+
+pub returns-in_err-read-clause-passes : goal.returns-in_err-read-clause-passes
+returns-in_err-read-clause-passes g c payload is =
+    not_done _ c.from_residual.result c.from_residual.ensures.0
+
+pub returns-in_err-read-clause-damage : goal.returns-in_err-read-clause-damage
+returns-in_err-read-clause-damage g c =
+    look_exit Bool (λ r. IfErr r (TellsDamage g.D.Disk.tells (texts g.D.Disk c.args.volumes.now.journal) (book_of c.args.volumes.now.held).namespace c.args.spots.now)) c.in_err-read.field-0.0
+    c.from_residual.result c.from_residual.ensures.1 tt tt
+
+pub returns-in_err-read-clause-reads : goal.returns-in_err-read-clause-reads
+returns-in_err-read-clause-reads g c = c.reread_group.ensures.reads
+
+pub returns-in_err-read-clause-faults : goal.returns-in_err-read-clause-faults
+returns-in_err-read-clause-faults g c =
+    read_looked Reread Bool (g.D.Disk.faults (disk_of c.args.volumes.now.journal)) (g.D.Disk.faults (disk_of c.reread_group.new.volumes.journal)) c.in_err-read.field-0.0 c.from_residual.result c.from_residual.ensures.1 c.in_err-read.ensures.faults
+
+pub returns-in-Own-default-default-false-clause-reads : goal.returns-in-Own-default-default-false-clause-reads
+returns-in-Own-default-default-false-clause-reads g c = c.reread_group.ensures.reads
+
+pub returns-in-Own-default-default-false-clause-faults : goal.returns-in-Own-default-default-false-clause-faults
+returns-in-Own-default-default-false-clause-faults g c = c.in_ok-read.ensures.faults
+
+pub returns-in-Own-default-default-true-clause-reads : goal.returns-in-Own-default-default-true-clause-reads
+returns-in-Own-default-default-true-clause-reads g c = c.reread_group.ensures.reads
+
+pub returns-in-Own-default-default-true-clause-faults : goal.returns-in-Own-default-default-true-clause-faults
+returns-in-Own-default-default-true-clause-faults g c = c.in_ok-read.ensures.faults
+
+pub returns-in-Same-clause-reads : goal.returns-in-Same-clause-reads
+returns-in-Same-clause-reads g c = c.reread_group.ensures.reads
+
+pub returns-in-Same-clause-faults : goal.returns-in-Same-clause-faults
+returns-in-Same-clause-faults g c = c.in_ok-read.ensures.faults
+
+pub returns-in-Damaged-clause-reads : goal.returns-in-Damaged-clause-reads
+returns-in-Damaged-clause-reads g c = c.reread_group.ensures.reads
+
+pub returns-in-Damaged-clause-faults : goal.returns-in-Damaged-clause-faults
+returns-in-Damaged-clause-faults g c = c.in_ok-read.ensures.faults
