@@ -2,14 +2,10 @@ pub mod Basis
 pub mod Bringing
 pub mod Holdings
 pub mod Looking
-pub mod Making
 pub mod Matching
-pub mod Rolling
 pub mod Settling
 pub mod Stood
 pub mod Stores
-pub mod TakingPieces
 pub mod Texts
 pub mod Told
 pub mod View
-pub mod steps

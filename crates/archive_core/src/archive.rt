@@ -30,23 +30,23 @@ use uuid::Uuid;
 #[derive(Drop)]
 pub struct Archive<D: Disk> {
     /// The volumes, and the book that they hold.
-    pub(crate) volumes: Volumes<D>,
+    pub volumes: Volumes<D>,
     /// The captures that are found by date.
-    pub(crate) index: Index,
+    pub index: Index,
     /// The captures that keep their whole wire, by the digests of their payloads.
-    pub(crate) table: Digests,
+    pub table: Digests,
     /// Where the captures stand.
-    pub(crate) spots: Vec<Spot>,
+    pub spots: Vec<Spot>,
     /// How much it takes.
-    pub(crate) limits: Limits,
+    pub limits: Limits,
     /// How many captures it found when it was opened.
-    pub(crate) found: u32,
+    pub found: u32,
     /// How many captures refer to an earlier one.
-    pub(crate) revisits: u32,
+    pub revisits: u32,
     /// How many of the first volumes were settled: where the book is told, their checkpoints are finished.
-    pub(crate) settled: u32,
+    pub settled: u32,
     /// Whether it is told what the book has.
-    pub(crate) told: Shown<bool>,
+    pub told: Shown<bool>,
 }
 
 impl<D: Disk> Model for Archive<D> {
@@ -140,7 +140,7 @@ impl<D: Disk> Archive<D> {
     }
 
     /// Refuses a capture more where there are as many as there may be.
-    pub(crate) fn check_room(&self) -> Result<(), StoreFault>
+    pub fn check_room(&self) -> Result<(), StoreFault>
         ensures { Admits (contents_of self.now) result }
     {
         let count = self.spots.len() as u32;

@@ -23,7 +23,7 @@ use surt_key::accepted_targets_have_keys;
 use warc_text::texts_are_committed;
 
 /// The laws that storing builds on.
-pub(crate) fn storing_has_a_basis()
+pub fn storing_has_a_basis()
     ensures { StoringBasis }
 {
     texts_are_committed();
@@ -36,7 +36,7 @@ pub(crate) fn storing_has_a_basis()
 }
 
 /// How many revisits a capture is that refers to this one, if to any.
-pub(crate) fn revisits_in(same: Option<u32>) -> u32
+pub fn revisits_in(same: Option<u32>) -> u32
     ensures { result ≡ (if is_some same then 1 else 0) }
 {
     match same {

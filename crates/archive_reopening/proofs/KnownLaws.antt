@@ -29,7 +29,7 @@ use Rattle.archive_opening.specs.Counting.{HasCountsOf}
 use Rattle.archive_opening.specs.Refusing.{IsBorneOut}
 use Rattle.archive_settling.specs.Finished.{HasCheckpoint}
 use Rattle.archive_reopening.specs.Reopening.{IsNotOpened, IsReopened}
-use Rattle.archive_core.specs.Making.{AreFinishedAsTold, IsMadeOf}
+use Rattle.archive_reopening.specs.Making.{AreFinishedAsTold, IsMadeOf}
 use Rattle.archive_reopening.specs.Known.{HasCheckpointsOfKnown, IsNotOpenedAt, IsNotOpenedKnown, IsReopenedAt, IsReopenedKnown, MayBeKnown, by_checkpoints, opening_of, told_at}
 use Rattle.archive_opening.specs.declared.opening.Opened.{Opened}
 use Rattle.archive_opening.specs.Telling.{AreCheckpointsSynced, AreReadOrTold, IsKnownRefusal, IsOfLine, IsOpenedBy, IsReadWhole, MayBeSettled, known_to}

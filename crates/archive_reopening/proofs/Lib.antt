@@ -1,3 +1,5 @@
 pub mod KnownLaws
+pub mod MadeLaws
 pub mod NamespaceLaws
 pub mod ReopenLaws
+pub mod StoodLaws

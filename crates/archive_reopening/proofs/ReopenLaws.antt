@@ -32,7 +32,7 @@ use Rattle.archive_opening.specs.Opening.{HoldsOther, IsDamageIn, IsOtherIn, IsO
 use Rattle.archive_gathering.specs.Refusing.{CountsFault, IsCause}
 use Rattle.archive_gathering.specs.Gathering.{IsIn}
 use Rattle.archive_reopening.specs.Reopening.{IsNotOpened, IsReopened}
-use Rattle.archive_core.specs.Making.{IsMadeOf, NamesCapture}
+use Rattle.archive_reopening.specs.Making.{IsMadeOf, NamesCapture}
 use Rattle.archive_reopening.specs.Known.{IsLined, IsNotOpenedKnown, IsReopenedKnown, MayBeKnown, opening_of, told_at}
 use Rattle.archive_core.specs.Told.{told_of}
 use Rattle.archive_volumes.specs.Volumes.{muted}

@@ -9,7 +9,7 @@ ghost use Rattle.archive_reopening.specs.Reopening.{IsNotOpened, IsReopened};
 ghost use Rattle.archive_core.specs.Stood.{KeepsOn};
 
 use crate::whole::open_whole;
-use archive_core::{Archive, archive_of};
+use archive_core::Archive;
 use archive_opening::open_by_checkpoints;
 use archive_shelf::{Depth, ReopenFault};
 use capture::{Book, Limits};

@@ -2,6 +2,7 @@
 #![tactic(auto)]
 
 mod knowing;
+mod making;
 mod watched;
 mod whole;
 

@@ -2,6 +2,7 @@
 use crate::storing::damage_text;
 use archive_core::Archive;
 use archive_pieces::PieceFault;
+use archive_taking::take_piece;
 use capture::Memory;
 use disk_model::Disk;
 use std::alloc::Global;
@@ -12,7 +13,7 @@ pub fn piece_taken<D: Disk>(
     archive: &mut Archive<D>,
     piece: &[u8],
 ) -> Result<String, Memory> {
-    match archive.take_piece(alloc, piece) {
+    match take_piece(alloc, archive, piece) {
         Ok(number) => Ok(format!(in alloc; "taken {number}")?),
         Err(fault) => fault_text(alloc, fault),
     }

@@ -4,6 +4,7 @@ ghost use Rattle.warc_text.specs.Fits.{Fits};
 use crate::words;
 use archive_core::Archive;
 use archive_shelf::{Looked, Receipt, RollFault, Shelf, StoreFault};
+use archive_taking::roll;
 use capture::{Digest, Memory, Taken};
 use digest32::{base32_of, payload_digest};
 use disk_model::Disk;
@@ -103,7 +104,7 @@ pub fn rolled<D: Disk>(
     if now > LATEST {
         return Ok(None);
     }
-    match archive.roll(alloc, now) {
+    match roll(alloc, archive, now) {
         Ok(()) => words::text(written(alloc, "rolled")),
         Err(RollFault::DiskFault) => words::text(written(alloc, "DiskFault")),
         Err(RollFault::Memory) => Err(Memory),

@@ -15,7 +15,7 @@ use Rattle.archive_shelf.specs.declared.fault.RollFault.TheVariants as rolls
 use Rattle.archive_shelf.specs.declared.fault.StoreFault.{StoreFault}
 use Rattle.archive_shelf.specs.declared.fault.StoreFault.TheVariants as stores
 use Rattle.archive_shelf.specs.declared.receipt.Receipt.{Receipt}
-use Rattle.archive_core.specs.Rolling.{is_roll_fault}
+use Rattle.archive_taking.specs.Rolling.{is_roll_fault}
 use Rattle.archive_gathering.specs.Refusing.{CountsFault}
 use Rattle.event_core.specs.Events.{bring_reply, roll_reply, settle_reply, store_reply}
 use Rattle.event_core.specs.Faults.{disk_faults, reopen_faults, reply_faults}

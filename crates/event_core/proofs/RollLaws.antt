@@ -16,7 +16,7 @@ use Rattle.archive_shelf.specs.declared.fault.RollFault.{RollFault}
 use Rattle.archive_shelf.specs.declared.fault.RollFault.TheVariants as rolls
 use Rattle.archive_volumes.specs.Held.{is_filled}
 use Rattle.archive_core.specs.Holdings.{Holdings}
-use Rattle.archive_core.specs.Rolling.{MayBeRefused, Rolls, WritesNoVolume}
+use Rattle.archive_taking.specs.Rolling.{MayBeRefused, Rolls, WritesNoVolume}
 use Rattle.archive_core.specs.Told.{told_of}
 use Rattle.event_core.proofs.StandLaws.{has_ids, kept_state, stands_by}
 use Rattle.event_core.specs.Events.{roll_reply}

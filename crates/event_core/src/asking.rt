@@ -14,6 +14,7 @@ use crate::{EventFault, Reply};
 use archive_core::Archive;
 use archive_settling::settling_keeps_checkpoints_right;
 use archive_shelf::{Shelf, captures_are_stored_one_way};
+use archive_taking::roll;
 use capture::{Items, Taken};
 use checkpoint::volumes_have_one_list_of_lines;
 use disk_model::Disk;
@@ -72,7 +73,7 @@ pub(crate) fn roll_event<D: Disk>(alloc: Global, archive: &mut Archive<D>, now: 
     ensures goes_on { (limits : Limits) (namespace : List ℕ) → GoesOn limits namespace (told_of D.Disk archive.old) (told_of D.Disk archive.new) (events.Roll now) result }
     ensures faults { RoseBy (reply_faults result) (D.faults (disk_of archive.old.journal)) (D.faults (disk_of archive.new.journal)) }
 {
-    let answer = archive.roll(alloc, now);
+    let answer = roll(alloc, archive, now);
     archive.shows_its_book();
     match answer {
         Ok(()) => Reply::Rolled,

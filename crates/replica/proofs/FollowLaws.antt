@@ -27,7 +27,7 @@ use Rattle.outside.specs.declared.dialer.Transcript.{Transcript}
 use Rattle.replica.proofs.TakeLaws.{IsTakenSo, IsUntakenSo, taken_so, untaken_so}
 use Rattle.replica.specs.Following.{AreTaken, AsksNext, EndsBy, GoesOn, HasFollowed, IsRoomFor, Leads, MayLeave, OpensAtLast, OpensBehind, Step, TakesNext, is_disk_stop}
 use Rattle.archive_pieces.specs.NextPieces.{Takes}
-use Rattle.archive_core.specs.TakingPieces.{TakesPiece}
+use Rattle.archive_taking.specs.TakingPieces.{TakesPiece}
 use Rattle.replica.specs.declared.asking.SourceFault.{SourceFault}
 use Rattle.replica.specs.declared.asking.SourceFault.TheVariants as sources
 use Rattle.replica.specs.declared.following.Stop.{Stop}

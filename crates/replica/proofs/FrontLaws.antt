@@ -2,7 +2,7 @@
 use Rattle.std.proofs.Common.{ℕ, ◌≤◌, Bool, IsTrue, List, [], ◌∷◌, length, Result, Ok, Err, refl, sym, ap, subst, ◌∙◌, inl, inr, ⊎_elim, arith}
 use Rattle.std.specs.Prelude.{⊤}
 use Rattle.archive_core.specs.Holdings.{Holdings}
-use Rattle.archive_core.specs.TakingPieces.{IsNextOf, StaysBeginning, TakenPiecesLeadOn, TakesPiece}
+use Rattle.archive_taking.specs.TakingPieces.{IsNextOf, StaysBeginning, TakenPiecesLeadOn, TakesPiece}
 use Rattle.archive_core.specs.Told.{told_of}
 use Rattle.archive_shelf.specs.Openings.{Moves, SameBook}
 use Rattle.capture.proofs.GrowthLaws.{growth_goes_on, grows_from_itself}

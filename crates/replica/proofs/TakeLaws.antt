@@ -16,8 +16,8 @@ use Rattle.replica.specs.Following.{IsRoomFor}
 use Rattle.archive_pieces.specs.NextPieces.{IsFrontBy, Takes}
 use Rattle.archive_pieces.specs.PieceParts.{room_by}
 use Rattle.archive_gathering.specs.Noting.{referring}
-use Rattle.archive_core.specs.TakingPieces.{HasTaken, IsUntaken}
-use Rattle.archive_core.specs.steps.Taking.{disk_failed, took}
+use Rattle.archive_taking.specs.TakingPieces.{HasTaken, IsUntaken}
+use Rattle.archive_taking.specs.steps.Taking.{disk_failed, took}
 use Rattle.warc_journal.specs.Journals.{disk_of}
 
 -- ---- the book

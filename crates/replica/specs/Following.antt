@@ -15,7 +15,7 @@ use Rattle.outside.specs.declared.dialer.Transcript.{Transcript}
 use Rattle.archive_pieces.specs.NextPieces.{Takes}
 use Rattle.replica.specs.Sources.{Asks, is_outside}
 use Rattle.archive_pieces.specs.PieceFaults.{is_take_fault}
-use Rattle.archive_core.specs.TakingPieces.{TakesPiece}
+use Rattle.archive_taking.specs.TakingPieces.{TakesPiece}
 use Rattle.replica.specs.declared.asking.SourceFault.{SourceFault}
 use Rattle.replica.specs.declared.following.Stop.{Stop}
 use Rattle.replica.specs.declared.following.Stop.TheVariants.{Source, Piece}

@@ -6,6 +6,7 @@ ghost use Rattle.replica.specs.Following.{HasFollowed, TakesNext, is_outside_sto
 use crate::asking::{SourceFault, ask};
 use archive_core::Archive;
 use archive_pieces::PieceFault;
+use archive_taking::take_piece;
 use disk_model::Disk;
 use exchange::{Target, Window};
 use outside::Dialer;
@@ -61,7 +62,7 @@ fn take_next<D: Disk, N: Dialer>(
         Ok(None) => return Ok(false),
         Err(fault) => return Err(Stop::Source(number, fault)),
     };
-    match archive.take_piece(alloc, piece.as_slice()) {
+    match take_piece(alloc, archive, piece.as_slice()) {
         Ok(_) => Ok(true),
         Err(fault) => Err(Stop::Piece(number, fault)),
     }

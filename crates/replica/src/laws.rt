@@ -1,8 +1,8 @@
 //! What a replica promises.
 ghost use Rattle.replica.specs.Fronts.{PiecesAreTaken, ReplicasAreFronts, StopsLeaveFronts};
 
-use archive_core::taken_pieces_lead_on;
 use archive_pieces::next_pieces_lead_on;
+use archive_taking::taken_pieces_lead_on;
 use disk_model::Disk;
 
 /// A replica that was a front of its source's book is one of the source's last book after each piece that it took, wherever it was stopped, while that

@@ -2,10 +2,10 @@ use Rattle.std.proofs.Common.{Bool, subst, sym, ◌∙◌}
 use Rattle.std.specs.Prelude.{IfOk}
 use Rattle.archive_opening.specs.Opening.{IsUsable}
 use Rattle.archive_volumes.proofs.ChangeLaws.{DiskLaws}
-use Rattle.archive_core.specs.Making.{IsMadeOf}
+use Rattle.archive_reopening.specs.Making.{IsMadeOf}
 use Rattle.archive_reopening.proofs.KnownLaws.{basis_told, entries_told, finished_told, may_be_known, refused_told, reopened_told, usable_told}
 use Rattle.archive_reopening.proofs.ReopenLaws.{no_memory, none_known}
-use Rattle.archive_core.proofs.StoodLaws.{keeps_made, keeps_on}
+use Rattle.archive_reopening.proofs.StoodLaws.{keeps_made, keeps_on}
 use Rattle.warc_journal.specs.Journals.{disk_of}
 use Rattle.archive_shelf.specs.declared.depth.Depth.TheVariants.{Checkpoints}
 use Rattle.archive_reopening.specs.Known.{told_at}

@@ -2,8 +2,8 @@ use Rattle.std.proofs.Common.{Bool, subst, sym}
 use Rattle.std.specs.Prelude.{IfOk}
 use Rattle.archive_opening.specs.Opening.{IsUsable}
 use Rattle.archive_volumes.proofs.ChangeLaws.{DiskLaws}
-use Rattle.archive_core.specs.Making.{IsMadeOf}
-use Rattle.archive_core.proofs.MadeLaws.{none_lined, numbered_of}
+use Rattle.archive_reopening.specs.Making.{IsMadeOf}
+use Rattle.archive_reopening.proofs.MadeLaws.{none_lined, numbered_of}
 use Rattle.archive_reopening.proofs.ReopenLaws.{basis_of, no_memory, not_opened, reopened}
 use Rattle.archive_reopening.proofs.whole.open_whole.Given.{Over}
 use Rattle.archive_reopening.proofs.whole.open_whole.Goals as goal

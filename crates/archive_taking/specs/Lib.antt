@@ -1,0 +1,3 @@
+pub mod Rolling
+pub mod TakingPieces
+pub mod steps
