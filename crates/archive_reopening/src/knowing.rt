@@ -8,6 +8,7 @@ ghost use Rattle.archive_reopening.specs.Known.{HasCheckpointsOfKnown, IsNotOpen
 ghost use Rattle.archive_reopening.specs.Reopening.{IsNotOpened, IsReopened};
 ghost use Rattle.archive_core.specs.Stood.{KeepsOn};
 
+use crate::making::archive_of;
 use crate::whole::open_whole;
 use archive_core::Archive;
 use archive_opening::open_by_checkpoints;

@@ -4,6 +4,7 @@ ghost use Rattle.warc_text.specs.Ids.{IsUuid};
 ghost use Rattle.archive_core.specs.Holdings.{AreLimits};
 ghost use Rattle.archive_reopening.specs.Reopening.{IsNotOpened, IsReopened};
 
+use crate::making::archive_of;
 use archive_core::Archive;
 use archive_opening::open_volumes;
 use archive_shelf::ReopenFault;
