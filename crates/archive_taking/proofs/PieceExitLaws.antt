@@ -147,6 +147,18 @@ head_by method head digest same (Wire wire) is = record { head = is.1.responds.p
 head_by method head digest same (Same number) is = record { head = is.1.parsed; is = is.1.tells.head_is.whole }
 head_by method head digest same (Cut wire) is = record { head = is.1.responds.parsed; is = is.1.responds.head_is.whole }
 
+-- the head of a group's response, as it stands in the group's text
+pub head_of_group : (namespace : List ℕ) (number : ℕ) (text head : List ℕ) (group : Group) → IsGroup namespace number text group → head ≡ group.stored.head
+    → HasHead head
+head_of_group namespace number text head group of same =
+    subst HasHead (sym same) (head_by group.stored.method group.stored.head group.digest (reference_in group.same) group.stored.kept of.answer)
+
+-- what was measured is so once a piece was made ready
+pub measured_on : {D : Type 0} (old now : Volumes D) → now.journal ≡ old.journal → book_of now.held ≡ book_of old.held
+    → IsMeasured old.journal (book_of old.held) → IsMeasured now.journal (book_of now.held)
+measured_on {D} old now journal_is book_is measured =
+    subst (λ (b : Book). IsMeasured now.journal b) (sym book_is) (subst (λ (j : Journal D). IsMeasured j (book_of old.held)) (sym journal_is) measured)
+
 -- all that is known of a piece that is ready, of which nothing was written
 pub record IsTaking {D : Type 0} (d : Ghosts D) (was : Holdings D) (now : Volumes D) (text : List ℕ) (group : Group) (first begins : Option ℕ) (ready : Ready) : Type 0 where
   pub is : IsArchive d (in_volumes was now)
@@ -278,9 +290,6 @@ module _ {D : Type 0} (d : Ghosts D) (basis : StoringBasis) (reading : Laws) (wa
 
   ready_head : IsResponseHeadText (stored_in ready.stored).head head_there.head
   ready_head = subst (λ (s : Stored). IsResponseHeadText s.head head_there.head) (sym t.ready_is.stored) stored_head
-
-  pub head_known : HasHead (stored_in ready.stored).head
-  head_known = record { head = head_there.head; is = ready_head }
 
   module _ (at : RecordAt) (n : ℕ) (at_is : at ≡ record_in now ready n) (n_is : n ≡ length (captures (book_of now.held))) (entry : Option Facts)
       (enters : (h : grammar.ResponseHead) → IsResponseHeadText (stored_in ready.stored).head h → EntersAs (stored_in ready.stored) h at entry) where

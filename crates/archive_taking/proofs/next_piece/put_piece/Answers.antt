@@ -1,7 +1,6 @@
 use Rattle.std.proofs.Common.{true, ◌≡◌, ◌+◌, ℕ, List, length, Some, Ok, Err, refl, sym, ap, subst, ◌∙◌, arith, ◌++◌, [], ◌∷◌}
 use Rattle.std.specs.Prelude.{is_some}
 use Rattle.capture.specs.Captures.{captures}
-use Rattle.capture.specs.Message.{IsResponseHeadText}
 use Rattle.capture.specs.declared.book.Book.{Book}
 use Rattle.capture.specs.declared.captured.Stored.{Stored}
 use Rattle.cdxj_index.specs.Facts.{Facts}
@@ -11,7 +10,7 @@ use Rattle.warc_journal.specs.Journals.{disk_of}
 use Rattle.warc_journal.specs.declared.journal.Journal.{Journal}
 use Rattle.archive_shelf.specs.Answers.{CountsIf}
 use Rattle.archive_volumes.specs.Entries.{entered}
-use Rattle.archive_volumes.specs.Held.{book_of, stored_in}
+use Rattle.archive_volumes.specs.Held.{book_of}
 use Rattle.archive_volumes.specs.Spots.{AreHeldWhole, whole_from}
 use Rattle.archive_volumes.specs.declared.spot.Spot.{Spot}
 use Rattle.archive_core.specs.Holdings.{Holdings}
@@ -38,90 +37,32 @@ make_piece_ready-requires-clause-holds g c =
 
 pub record_at-at-requires-clause-measured : goal.record_at-at-requires-clause-measured
 record_at-at-requires-clause-measured g c =
-    let was : Holdings _ = holdings_of c.archive.inside in
-    let now = c.make_piece_ready.new.volumes in
-    let ready = c.in_ok-ready.ready in
-    let text = c.args.text.now in
-    let group = c.args.group in
-    let first = c.args.first in
-    let begins = c.args.begins in
-    let t = laws.taking g.D.Disk c.args.archive.now was c.archive.inside.volumes now text group first begins ready c.archive.view_is refl refl c.archive.invariant
-    c.requires.not_full c.requires.group c.requires.refers c.requires.holds c.requires.bounds c.make_piece_ready.ensures.journal
-    c.make_piece_ready.ensures.book (laws.of_group c.args.text.now c.args.group c.in_ok-roomed.roomed c.args.first c.in_ok-ready.ready c.in_ok-roomed.ensures.same c.in_ok-ready.ensures.ready) c.in_ok-ready.ensures.room in
-    t.is.measured
+    laws.measured_on c.archive.inside.volumes c.make_piece_ready.new.volumes c.make_piece_ready.ensures.journal c.make_piece_ready.ensures.book
+    c.archive.invariant.measured
 
 pub record_at-at-requires-clause-room : goal.record_at-at-requires-clause-room
-record_at-at-requires-clause-room g c =
-    let was : Holdings _ = holdings_of c.archive.inside in
-    let now = c.make_piece_ready.new.volumes in
-    let ready = c.in_ok-ready.ready in
-    let text = c.args.text.now in
-    let group = c.args.group in
-    let first = c.args.first in
-    let begins = c.args.begins in
-    let t = laws.taking g.D.Disk c.args.archive.now was c.archive.inside.volumes now text group first begins ready c.archive.view_is refl refl c.archive.invariant
-    c.requires.not_full c.requires.group c.requires.refers c.requires.holds c.requires.bounds c.make_piece_ready.ensures.journal
-    c.make_piece_ready.ensures.book (laws.of_group c.args.text.now c.args.group c.in_ok-roomed.roomed c.args.first c.in_ok-ready.ready c.in_ok-roomed.ensures.same c.in_ok-ready.ensures.ready) c.in_ok-ready.ensures.room in
-    t.room_is.room
+record_at-at-requires-clause-room g c = c.in_ok-ready.ensures.room.room
 
 pub enter_ready-requires-clause-date : goal.enter_ready-requires-clause-date
 enter_ready-requires-clause-date g c =
-    let was : Holdings _ = holdings_of c.archive.inside in
-    let now = c.make_piece_ready.new.volumes in
-    let ready = c.in_ok-ready.ready in
-    let text = c.args.text.now in
-    let group = c.args.group in
-    let first = c.args.first in
-    let begins = c.args.begins in
-    let t = laws.taking g.D.Disk c.args.archive.now was c.archive.inside.volumes now text group first begins ready c.archive.view_is refl refl c.archive.invariant
-    c.requires.not_full c.requires.group c.requires.refers c.requires.holds c.requires.bounds c.make_piece_ready.ensures.journal
-    c.make_piece_ready.ensures.book (laws.of_group c.args.text.now c.args.group c.in_ok-roomed.roomed c.args.first c.in_ok-ready.ready c.in_ok-roomed.ensures.same c.in_ok-ready.ensures.ready) c.in_ok-ready.ensures.room in
-    subst (λ (s : Stored). InRange s.date) (sym t.ready_is.stored) (subst InRange (sym (laws.date_same group.stored first)) t.of.date)
+    let ready_is = laws.of_group c.args.text.now c.args.group c.in_ok-roomed.roomed c.args.first c.in_ok-ready.ready c.in_ok-roomed.ensures.same c.in_ok-ready.ensures.ready in
+    subst (λ (s : Stored). InRange s.date) (sym ready_is.stored) (subst InRange (sym (laws.date_same c.args.group.stored c.args.first)) c.requires.group.date)
 
 pub enter_ready-requires-clause-kept : goal.enter_ready-requires-clause-kept
 enter_ready-requires-clause-kept g c =
-    let was : Holdings _ = holdings_of c.archive.inside in
-    let now = c.make_piece_ready.new.volumes in
-    let ready = c.in_ok-ready.ready in
-    let text = c.args.text.now in
-    let group = c.args.group in
-    let first = c.args.first in
-    let begins = c.args.begins in
-    let t = laws.taking g.D.Disk c.args.archive.now was c.archive.inside.volumes now text group first begins ready c.archive.view_is refl refl c.archive.invariant
-    c.requires.not_full c.requires.group c.requires.refers c.requires.holds c.requires.bounds c.make_piece_ready.ensures.journal
-    c.make_piece_ready.ensures.book (laws.of_group c.args.text.now c.args.group c.in_ok-roomed.roomed c.args.first c.in_ok-ready.ready c.in_ok-roomed.ensures.same c.in_ok-ready.ensures.ready) c.in_ok-ready.ensures.room in
-    t.ready_is.kept
+    let ready_is = laws.of_group c.args.text.now c.args.group c.in_ok-roomed.roomed c.args.first c.in_ok-ready.ready c.in_ok-roomed.ensures.same c.in_ok-ready.ensures.ready in
+    ready_is.kept
 
 pub enter_ready-requires-clause-is : goal.enter_ready-requires-clause-is
 enter_ready-requires-clause-is g c =
-    let was : Holdings _ = holdings_of c.archive.inside in
-    let now = c.make_piece_ready.new.volumes in
-    let ready = c.in_ok-ready.ready in
-    let text = c.args.text.now in
-    let group = c.args.group in
-    let first = c.args.first in
-    let begins = c.args.begins in
-    let t = laws.taking g.D.Disk c.args.archive.now was c.archive.inside.volumes now text group first begins ready c.archive.view_is refl refl c.archive.invariant
-    c.requires.not_full c.requires.group c.requires.refers c.requires.holds c.requires.bounds c.make_piece_ready.ensures.journal
-    c.make_piece_ready.ensures.book (laws.of_group c.args.text.now c.args.group c.in_ok-roomed.roomed c.args.first c.in_ok-ready.ready c.in_ok-roomed.ensures.same c.in_ok-ready.ensures.ready) c.in_ok-ready.ensures.room in
-    c.head_in-head.ensures ∙ sym (laws.head_same group.stored first) ∙ sym (ap (λ (s : Stored). s.head) t.ready_is.stored)
+    let ready_is = laws.of_group c.args.text.now c.args.group c.in_ok-roomed.roomed c.args.first c.in_ok-ready.ready c.in_ok-roomed.ensures.same c.in_ok-ready.ensures.ready in
+    c.head_in-head.ensures ∙ sym (laws.head_same c.args.group.stored c.args.first) ∙ sym (ap (λ (s : Stored). s.head) ready_is.stored)
 
 pub enter_ready-requires-clause-head : goal.enter_ready-requires-clause-head
 enter_ready-requires-clause-head g c =
-    let was : Holdings _ = holdings_of c.archive.inside in
-    let now = c.make_piece_ready.new.volumes in
-    let ready = c.in_ok-ready.ready in
-    let text = c.args.text.now in
-    let group = c.args.group in
-    let first = c.args.first in
-    let begins = c.args.begins in
-    let t = laws.taking g.D.Disk c.args.archive.now was c.archive.inside.volumes now text group first begins ready c.archive.view_is refl refl c.archive.invariant
-    c.requires.not_full c.requires.group c.requires.refers c.requires.holds c.requires.bounds c.make_piece_ready.ensures.journal
-    c.make_piece_ready.ensures.book (laws.of_group c.args.text.now c.args.group c.in_ok-roomed.roomed c.args.first c.in_ok-ready.ready c.in_ok-roomed.ensures.same c.in_ok-ready.ensures.ready) c.in_ok-ready.ensures.room in
-    let is : c.head_in-head.result.now ≡ (stored_in ready.stored).head =
-    c.head_in-head.ensures ∙ sym (laws.head_same group.stored first) ∙ sym (ap (λ (s : Stored). s.head) t.ready_is.stored) in
-    let there = laws.head_known g.D.Disk c.storing_has_a_basis.ensures c.reading_laws.ensures was now text group first begins ready t in
-    (there.head, subst (λ (h : List ℕ). IsResponseHeadText h there.head) (sym is) there.is)
+    let book = c.args.archive.now.book in
+    let there = laws.head_of_group book.namespace (length (captures book)) c.args.text.now c.head_in-head.result.now c.args.group c.requires.group c.head_in-head.ensures in
+    (there.head, there.is)
 
 pub enter_ready-requires-clause-indexed : goal.enter_ready-requires-clause-indexed
 enter_ready-requires-clause-indexed g c =
