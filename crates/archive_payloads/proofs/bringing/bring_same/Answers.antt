@@ -2,7 +2,7 @@ use Rattle.archive_payloads.specs.Damage.{TellsFound}
 use Rattle.archive_payloads.proofs.FaultLaws.{counts_behind, read_brought, read_exit}
 use Rattle.archive_shelf.specs.Answers.{is_bring_fault}
 use Rattle.std.proofs.Common.{◌≡◌, ℕ, IsTrue, true, List, Option, None, Some, Ok, refl, sym, ap, subst, ◌∙◌, inl, inr, arith}
-use Rattle.std.specs.Prelude.{IfSome, IfErr, IfOk}
+use Rattle.std.specs.Prelude.{IfSome, IfErr}
 use Rattle.capture.specs.declared.book.Book.{Book}
 use Rattle.capture.specs.declared.captured.Brought.{Brought}
 use Rattle.warc_journal.specs.Journals.{texts, disk_of}
