@@ -10,7 +10,7 @@ ghost use Rattle.archive_volumes.specs.Spots.{HasPlace, head_in, is_cut_form, wi
 use crate::decode::{framing_behind, is_response_head, payload_in};
 use crate::part::{ReadFault, read_part};
 use archive_volumes::{Spot, Volumes};
-use capture::{Bytes, Digest, Framing, wires_have_one_payload};
+use capture::{Bytes, Digest, Framing};
 use digest32::payload_digest;
 use disk_model::Disk;
 use std::alloc::Global;
@@ -108,7 +108,6 @@ pub fn read_back<D: Disk>(
     ensures reads { OnlyReads D.Disk volumes.old volumes.new }
     ensures faults { CountsIf (is_read_fault result) (D.faults (disk_of volumes.old.journal)) (D.faults (disk_of volumes.new.journal)) }
 {
-    wires_have_one_payload();
     let head = read_part(alloc, volumes, spot.head_place())?;
     let framing = match framing_behind(alloc, spot.method.as_slice(), head.as_slice())? {
         Some(framing) => framing,

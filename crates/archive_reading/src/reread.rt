@@ -18,7 +18,7 @@ use crate::kept_group::read_text;
 use crate::part::ReadFault;
 use crate::payload::{ReadBack, read_back};
 use archive_volumes::{Spot, Volumes, form_kept};
-use capture::{Bytes, Digest, Kept, Memory, Stored, Text, wires_have_one_payload};
+use capture::{Bytes, Digest, Kept, Memory, Stored, Text};
 use disk_model::Disk;
 use shown::Shown;
 use std::alloc::Global;
@@ -57,7 +57,6 @@ fn own(alloc: Global, method: &Text, head: Bytes, wire: Bytes, cut: bool) -> Res
     requires short { length wire < 2 ^ 64 }
     ensures { (payload : List ℕ) → HasPayload cut method.now head wire payload → IfOk result (λ read. read ≡ OwnRead head payload cut) }
 {
-    wires_have_one_payload();
     let framing = match framing_behind(alloc, method.as_slice(), head.as_slice())? {
         Some(framing) => framing,
         None => unreachable!(),

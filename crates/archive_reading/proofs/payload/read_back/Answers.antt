@@ -1,4 +1,5 @@
 use Rattle.std.proofs.Common.{◌≡◌, ℕ, List, Option, Some, None, sym, subst, ◌∙◌}
+use Rattle.capture.proofs.PayloadLaws.{one_payload}
 use Rattle.warc_journal.specs.Journals.{texts}
 use Rattle.archive_reading.proofs.BringLaws.{kept_tells, read_right, reads_then, texts_stay}
 use Rattle.archive_reading.proofs.FoundLaws.{checked_there, none_there}
@@ -29,7 +30,7 @@ returns-clause-right g c number told kept =
     subst (λ (t : List (List ℕ)). HoldsPayload (is_cut_form spot.form) c.in-Some.framing (wire_in t spot) c.in_ok-found.found) same
     (c.in_ok-found.ensures.payload told) in
     subst (λ (r : ReadBack). IsReadRight (book_of c.args.volumes.now.held) number r) (sym c.checked.ensures)
-    (read_right c.wires_have_one_payload.ensures.one (texts g.D.Disk c.args.volumes.now.journal) (book_of c.args.volumes.now.held) number spot kept
+    (read_right one_payload (texts g.D.Disk c.args.volumes.now.journal) (book_of c.args.volumes.now.held) number spot kept
     c.of.result (c.of.ensures ∙ head) c.in-Some.framing
     (subst (λ (h : List ℕ). TellsFraming spot.method h (Some c.in-Some.framing)) (sym c.of.ensures) tells) c.in_ok-found.found holds)
 
