@@ -18,10 +18,22 @@ const TIMES: u32 = 20_000;
 
 pub fn measure<R: Clock + Print>(rt: &R, alloc: Global) -> Result<(), Stopped> {
     let taken = taken_of(alloc, BODY)?;
+    measure_group(rt, alloc, &taken)
+}
+
+/// Composes the groups of this capture.
+fn measure_group<R: Clock + Print>(rt: &R, alloc: Global, taken: &Taken) -> Result<(), Stopped>
+    requires { InRange taken.now.date }
+{
     let start = Measured::start(rt)?;
-    let group = composed(alloc, &taken)?;
+    let group = composed(alloc, taken)?;
+    print_composed(rt, &start, group.as_slice())
+}
+
+/// Prints how long that took from the start on.
+fn print_composed<R: Clock + Print>(rt: &R, start: &Measured, group: &[u8]) -> Result<(), Stopped> {
     let nanos = start.nanos(rt)?;
-    let plain = time_of(rt, group.as_slice(), TIMES)?;
+    let plain = time_of(rt, group, TIMES)?;
     print_beside(
         rt,
         "a group with a body of 20,000 bytes composed",

@@ -15,29 +15,44 @@ const TIMES: u32 = 100_000;
 
 pub fn measure<R: Clock + Print>(rt: &R, alloc: Global) -> Result<(), Stopped> {
     let head = head_of(alloc)?;
-    let mut found = 0u64;
-    let start = Measured::start(rt)?;
-    for _ in 0..TIMES {
-        if find_head_end(head.as_slice()).is_some() {
-            found = found.saturating_add(1);
-        }
-    }
-    let ended = start.print(rt, "the end of a head found", found)?;
-    let mut headers = vec![in alloc; EMPTY_HEADER_SPAN; 32]?;
-    let mut parsed = 0u64;
-    let start = Measured::start(rt)?;
-    for _ in 0..TIMES {
-        if parse_request(head.as_slice(), headers.as_mut_slice()).is_ok() {
-            parsed = parsed.saturating_add(1);
-        }
-    }
-    let grammar = start.print(rt, "the same head parsed by httparse", parsed)?;
+    measure_head(rt, alloc, head.as_slice())
+}
+
+/// Looks for the end of the head, and parses it.
+fn measure_head<R: Clock + Print>(rt: &R, alloc: Global, head: &[u8]) -> Result<(), Stopped> {
+    let ended = ended(rt, head)?;
+    let grammar = parsed(rt, alloc, head)?;
     println!(rt;
         "{} bytes; finding the end takes {}% of parsing",
         head.len(),
         ended.saturating_mul(100).checked_div(grammar).unwrap_or(0)
     )?;
     Ok(())
+}
+
+/// The nanoseconds that it takes to find its end.
+fn ended<R: Clock + Print>(rt: &R, head: &[u8]) -> Result<u64, Stopped> {
+    let mut found = 0u64;
+    let start = Measured::start(rt)?;
+    for _ in 0..TIMES {
+        if find_head_end(head).is_some() {
+            found = found.saturating_add(1);
+        }
+    }
+    start.print(rt, "the end of a head found", found)
+}
+
+/// The nanoseconds that it takes to parse it.
+fn parsed<R: Clock + Print>(rt: &R, alloc: Global, head: &[u8]) -> Result<u64, Stopped> {
+    let mut headers = vec![in alloc; EMPTY_HEADER_SPAN; 32]?;
+    let mut parsed = 0u64;
+    let start = Measured::start(rt)?;
+    for _ in 0..TIMES {
+        if parse_request(head, headers.as_mut_slice()).is_ok() {
+            parsed = parsed.saturating_add(1);
+        }
+    }
+    start.print(rt, "the same head parsed by httparse", parsed)
 }
 
 /// A request's head.

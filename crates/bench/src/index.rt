@@ -22,12 +22,20 @@ pub fn measure<R: Clock + Files + Print>(rt: &R, alloc: Global) -> Result<(), St
     let before = resident(rt, alloc);
     let (index, random) = added(rt, alloc)?;
     let bytes = resident(rt, alloc).saturating_sub(before);
+    measure_index(rt, alloc, &index, bytes, random)
+}
+
+/// Looks entries up in an index that takes so many bytes, and makes one in order, beside so many nanoseconds for an entry in no order.
+fn measure_index<R: Clock + Print>(
+    rt: &R,
+    alloc: Global,
+    index: &Index,
+    bytes: u64,
+    random: u64,
+) -> Result<(), Stopped> {
     println!(rt; "memory of an entry: {} bytes", bytes / u64::from(ENTRIES))?;
-    look_up(rt, alloc, &index)?;
-    let list = copies(alloc, &index)?;
-    let start = Measured::start(rt)?;
-    let sorted = Index::of_sorted(alloc, list)?;
-    let in_order = start.print(rt, "an index of entries in order", sorted.len() as u64)?;
+    look_up(rt, alloc, index)?;
+    let in_order = sorted(rt, alloc, index)?;
     println!(rt;
         "in no order: {}% of that",
         random
@@ -36,6 +44,14 @@ pub fn measure<R: Clock + Files + Print>(rt: &R, alloc: Global) -> Result<(), St
             .unwrap_or(0)
     )?;
     Ok(())
+}
+
+/// The nanoseconds that an entry takes of an index that is made of all in order.
+fn sorted<R: Clock + Print>(rt: &R, alloc: Global, index: &Index) -> Result<u64, Stopped> {
+    let list = copies(alloc, index)?;
+    let start = Measured::start(rt)?;
+    let sorted = Index::of_sorted(alloc, list)?;
+    start.print(rt, "an index of entries in order", sorted.len() as u64)
 }
 
 /// Adds entries in no order, neither of keys nor of numbers, and gives the time of one in nanoseconds.

@@ -11,15 +11,20 @@ const URLS: u32 = 200_000;
 
 pub fn measure<R: Clock + Print>(rt: &R, alloc: Global) -> Result<(), Stopped> {
     let urls = urls_of(alloc)?;
+    measure_urls(rt, alloc, urls.as_slice())
+}
+
+/// Makes the keys of these urls.
+fn measure_urls<R: Clock + Print>(rt: &R, alloc: Global, urls: &[String]) -> Result<(), Stopped> {
     let mut keys = 0u64;
     let start = Measured::start(rt)?;
-    for url in urls.as_slice() {
+    for url in urls {
         if key_of(alloc, url.as_bytes()).is_ok() {
             keys = keys.saturating_add(1);
         }
     }
     let nanos = start.nanos(rt)?;
-    let plain = time_of(rt, joined(alloc, urls.as_slice())?.as_slice(), 1)?;
+    let plain = time_of(rt, joined(alloc, urls)?.as_slice(), 1)?;
     print_beside(rt, "the key of a url of 40 bytes", keys, nanos, plain)
 }
 

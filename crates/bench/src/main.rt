@@ -15,26 +15,40 @@ mod responses;
 mod tables;
 
 use measuring::Stopped;
+use std::alloc::Global;
 use std::env;
+use std::io::Print;
+use std::rt::{Clock, Files};
 
 fn main(rt: HostRuntime) -> Result<(), Stopped> {
     let mut words = env::args(&rt)?.skip(1);
     let word = words.next();
-    match word.as_ref().map(String::as_str) {
-        Some("digests") => digests::measure(&rt, rt.alloc()),
-        Some("groups") => groups::measure(&rt, rt.alloc()),
-        Some("heads") => heads::measure(&rt, rt.alloc()),
-        Some("index") => index::measure(&rt, rt.alloc()),
-        Some("keys") => keys::measure(&rt, rt.alloc()),
-        Some("pages") => pages::measure(&rt, rt.alloc()),
-        Some("queries") => queries::measure(&rt, rt.alloc()),
-        Some("responses") => responses::measure(&rt, rt.alloc()),
-        Some("tables") => tables::measure(&rt, rt.alloc()),
-        _ => {
-            println!(rt;
-                "usage: bench TOPIC, which is digests, groups, heads, index, keys, pages, queries, responses or tables"
-            )?;
-            Ok(())
-        }
+    measure(&rt, rt.alloc(), word.as_ref().map(String::as_str))
+}
+
+/// Measures a topic. Where the word is none it tells them.
+fn measure<R: Clock + Files + Print>(
+    rt: &R,
+    alloc: Global,
+    word: Option<&str>,
+) -> Result<(), Stopped> {
+    match word {
+        Some("digests") => digests::measure(rt, alloc),
+        Some("groups") => groups::measure(rt, alloc),
+        Some("heads") => heads::measure(rt, alloc),
+        Some("index") => index::measure(rt, alloc),
+        Some("keys") => keys::measure(rt, alloc),
+        Some("pages") => pages::measure(rt, alloc),
+        Some("queries") => queries::measure(rt, alloc),
+        Some("responses") => responses::measure(rt, alloc),
+        Some("tables") => tables::measure(rt, alloc),
+        _ => print_usage(rt),
     }
+}
+
+fn print_usage<R: Print>(rt: &R) -> Result<(), Stopped> {
+    println!(rt;
+        "usage: bench TOPIC, which is digests, groups, heads, index, keys, pages, queries, responses or tables"
+    )?;
+    Ok(())
 }

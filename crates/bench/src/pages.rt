@@ -17,21 +17,13 @@ const TIMES: u32 = 20;
 
 pub fn measure<R: Clock + Print>(rt: &R, alloc: Global) -> Result<(), Stopped> {
     let page = page_of(alloc)?;
-    let site = site_of(alloc)?;
-    let start = Measured::start(rt)?;
-    for _ in 0..TIMES {
-        rewrite(alloc, page.as_slice(), b"http://a.test/p", NOON, &site)?;
-    }
-    let rewritten = start.print(
-        rt,
-        "a page of 1 MB with 5,000 links rewritten",
-        u64::from(TIMES),
-    )?;
-    let start = Measured::start(rt)?;
-    for _ in 0..TIMES {
-        Vec::from_slice(alloc, page.as_slice())?;
-    }
-    let copied = start.print(rt, "the same page copied", u64::from(TIMES))?;
+    measure_page(rt, alloc, page.as_slice())
+}
+
+/// Rewrites the page and copies it.
+fn measure_page<R: Clock + Print>(rt: &R, alloc: Global, page: &[u8]) -> Result<(), Stopped> {
+    let rewritten = rewritten_at(rt, alloc, page)?;
+    let copied = copied(rt, alloc, page)?;
     let rate = (page.len() as u64).saturating_mul(1_000);
     println!(rt;
         "{} MB/s, {} times the copy",
@@ -39,6 +31,38 @@ pub fn measure<R: Clock + Print>(rt: &R, alloc: Global) -> Result<(), Stopped> {
         rewritten.checked_div(copied).unwrap_or(0)
     )?;
     Ok(())
+}
+
+/// The nanoseconds that it takes to rewrite the page at the archive's own site.
+fn rewritten_at<R: Clock + Print>(rt: &R, alloc: Global, page: &[u8]) -> Result<u64, Stopped> {
+    let site = site_of(alloc)?;
+    rewritten(rt, alloc, page, &site)
+}
+
+fn rewritten<R: Clock + Print>(
+    rt: &R,
+    alloc: Global,
+    page: &[u8],
+    site: &Site,
+) -> Result<u64, Stopped> {
+    let start = Measured::start(rt)?;
+    for _ in 0..TIMES {
+        rewrite(alloc, page, b"http://a.test/p", NOON, site)?;
+    }
+    start.print(
+        rt,
+        "a page of 1 MB with 5,000 links rewritten",
+        u64::from(TIMES),
+    )
+}
+
+/// The nanoseconds that it takes to copy the page.
+fn copied<R: Clock + Print>(rt: &R, alloc: Global, page: &[u8]) -> Result<u64, Stopped> {
+    let start = Measured::start(rt)?;
+    for _ in 0..TIMES {
+        Vec::from_slice(alloc, page)?;
+    }
+    start.print(rt, "the same page copied", u64::from(TIMES))
 }
 
 /// A page of 1,000,000 bytes.

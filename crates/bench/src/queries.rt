@@ -13,17 +13,37 @@ const ENTRIES: u32 = 100_000;
 /// How often a query is answered, and its answer copied.
 const TIMES: u32 = 10;
 
+/// Queries that all entries meet.
+const LINES: &[u8] = b"url=test&matchType=domain&from=2024&to=2024";
+
+const JSON: &[u8] = b"url=test&matchType=domain&from=2024&to=2024&output=json";
+
 pub fn measure<R: Clock + Print>(rt: &R, alloc: Global) -> Result<(), Stopped> {
     let entries = entries_of(alloc)?;
+    measure_forms(rt, alloc, entries.as_slice())
+}
+
+/// Answers in lines and in JSON.
+fn measure_forms<R: Clock + Print>(
+    rt: &R,
+    alloc: Global,
+    entries: &[Entry],
+) -> Result<(), Stopped> {
     println!(rt; "lines:")?;
-    let lines = query_of(alloc, b"url=test&matchType=domain&from=2024&to=2024")?;
-    answered(rt, alloc, &lines, entries.as_slice())?;
+    measure_text(rt, alloc, LINES, entries)?;
     println!(rt; "JSON:")?;
-    let json = query_of(
-        alloc,
-        b"url=test&matchType=domain&from=2024&to=2024&output=json",
-    )?;
-    answered(rt, alloc, &json, entries.as_slice())
+    measure_text(rt, alloc, JSON, entries)
+}
+
+/// Answers the query of this text.
+fn measure_text<R: Clock + Print>(
+    rt: &R,
+    alloc: Global,
+    text: &[u8],
+    entries: &[Entry],
+) -> Result<(), Stopped> {
+    let query = query_of(alloc, text)?;
+    measure_query(rt, alloc, &query, entries)
 }
 
 /// The entries, in order of their keys.
@@ -42,29 +62,55 @@ fn query_of(alloc: Global, text: &[u8]) -> Result<Query, Memory> {
     }
 }
 
-/// Answers a query that all entries meet, and prints the rate and how many times as long it took as a copy of the answer.
-fn answered<R: Clock + Print>(
+/// Answers a query, and prints the rate and how many times as long it took as a copy of the answer.
+fn measure_query<R: Clock + Print>(
     rt: &R,
     alloc: Global,
     query: &Query,
     entries: &[Entry],
 ) -> Result<(), Stopped> {
     let text = answer(alloc, query, entries)?;
+    let taken = answered(rt, alloc, query, entries);
+    print_answered(rt, alloc, taken, text.as_slice())
+}
+
+/// The nanoseconds that an answer takes.
+fn answered<R: Clock + Print>(
+    rt: &R,
+    alloc: Global,
+    query: &Query,
+    entries: &[Entry],
+) -> Result<u64, Stopped> {
     let start = Measured::start(rt)?;
     for _ in 0..TIMES {
         answer(alloc, query, entries)?;
     }
-    let taken = start.print(rt, "a query of 100,000 entries answered", u64::from(TIMES))?;
-    let start = Measured::start(rt)?;
-    for _ in 0..TIMES {
-        Vec::from_slice(alloc, text.as_slice())?;
-    }
-    let copied = start.print(rt, "the same answer copied", u64::from(TIMES))?;
-    let rate = (text.as_slice().len() as u64).saturating_mul(1_000);
+    start.print(rt, "a query of 100,000 entries answered", u64::from(TIMES))
+}
+
+/// Prints the rate of an answer that took so long, and how many times as long that is as a copy.
+fn print_answered<R: Clock + Print>(
+    rt: &R,
+    alloc: Global,
+    taken: Result<u64, Stopped>,
+    text: &[u8],
+) -> Result<(), Stopped> {
+    let taken = taken?;
+    let copied = copied(rt, alloc, text)?;
+    let rate = (text.len() as u64).saturating_mul(1_000);
     println!(rt;
         "{} MB/s, {} times the copy",
         rate.checked_div(taken).unwrap_or(0),
         taken.checked_div(copied).unwrap_or(0)
     )?;
     Ok(())
+}
+
+/// The nanoseconds that a copy of the text takes.
+fn copied<R: Clock + Print>(rt: &R, alloc: Global, text: &[u8]) -> Result<u64, Stopped> {
+    let start = Measured::start(rt)?;
+    for _ in 0..TIMES {
+        Vec::from_slice(alloc, text)?;
+    }
+    start.print(rt, "the same answer copied", u64::from(TIMES))
 }

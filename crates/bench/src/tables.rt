@@ -39,14 +39,18 @@ pub fn measure<R: Clock + Print>(rt: &R, alloc: Global) -> Result<(), Stopped> {
 
 fn measure_digests<R: Clock + Print>(rt: &R, alloc: Global) -> Result<(), Stopped> {
     let digests = digests_of(alloc)?;
-    let table = table_of(alloc, digests.as_slice())?;
-    let mut found = 0u64;
-    let start = Measured::start(rt)?;
-    for digest in digests.as_slice() {
-        found = found.saturating_add(table.candidates(digest).len() as u64);
-    }
-    let nanos = start.nanos(rt)?;
-    let plain = time_of(rt, joined(alloc, digests.as_slice())?.as_slice(), 1)?;
+    measure_table(rt, alloc, digests.as_slice())
+}
+
+/// Looks each of these digests up in a table of all.
+fn measure_table<R: Clock + Print>(
+    rt: &R,
+    alloc: Global,
+    digests: &[Digest],
+) -> Result<(), Stopped> {
+    let table = table_of(alloc, digests)?;
+    let (found, nanos) = looked_up(rt, &table, digests)?;
+    let plain = time_of(rt, joined(alloc, digests)?.as_slice(), 1)?;
     print_beside(
         rt,
         "a digest looked up among 1,000,000",
@@ -54,6 +58,17 @@ fn measure_digests<R: Clock + Print>(rt: &R, alloc: Global) -> Result<(), Stoppe
         nanos,
         plain,
     )
+}
+
+/// How many captures of these digests the table has, and the nanoseconds that it took to look them up.
+fn looked_up<R: Clock>(rt: &R, table: &Digests, digests: &[Digest]) -> Result<(u64, u64), Stopped> {
+    let mut found = 0u64;
+    let start = Measured::start(rt)?;
+    for digest in digests {
+        found = found.saturating_add(table.candidates(digest).len() as u64);
+    }
+    let nanos = start.nanos(rt)?;
+    Ok((found, nanos))
 }
 
 /// Digests in no order.
