@@ -1,16 +1,9 @@
-//! Tests of `vault`: passes beside each other, in two threads and as shelves, and what others may do while one compares. No case can
-//! say it: a case has one thread.
+//! Tests of `vault`: passes beside each other, in two threads and as shelves. No case can say it: a case has one thread.
 #![tactic(auto)]
 
 #[cfg(test)]
-mod captures;
-#[cfg(test)]
-mod passes;
+mod answers;
 #[cfg(test)]
 mod shelves;
 #[cfg(test)]
 mod turns;
-#[cfg(test)]
-mod waiting;
-#[cfg(test)]
-mod waiting_disk;

@@ -1,10 +1,7 @@
 //! Shelves of one vault: each finds and brings what the other one stored.
 ghost use Rattle.std.specs.Prelude.{◌≡◌};
 
-use crate::captures::{FIRST, PAYLOAD, SECOND, first_capture, second_capture};
-use crate::passes::{
-    are_first_and_second, begun, found_by_date, has_both, seated, stored, vault_over,
-};
+use crate::answers::{are_first_and_second, found_by_date, has_both, made};
 use archive_shelf::Shelf;
 use disk_model::{Disk, MemoryDisk};
 use std::alloc::Global;
@@ -13,6 +10,9 @@ use std::process::Abort;
 use std::sync::Wait;
 use std::test::*;
 use vault::{At, Naming, Unnamed};
+use vault_passes::{
+    FIRST, PAYLOAD, SECOND, begun, first_capture, seated, second_capture, stored, vault_over,
+};
 
 #[test]
 fn shelves_find_and_bring_what_others_stored(rt: HostRuntime) -> Result<(), Fail> {
@@ -22,7 +22,9 @@ fn shelves_find_and_bring_what_others_stored(rt: HostRuntime) -> Result<(), Fail
 
 fn both_shelved<R: Wait + Abort>(rt: &R, alloc: Global) {
     let disk = MemoryDisk::new(alloc, Vec::new(alloc));
-    let unnamed = vault_over(rt, alloc, disk, 2);
+    let Some(unnamed) = vault_over(rt, alloc, disk, 2) else {
+        panic!(rt; "no vault")
+    };
     stored_by_shelves::<Brand, R, MemoryDisk>(rt, alloc, unnamed);
 }
 
@@ -35,8 +37,8 @@ fn stored_by_shelves<J: Naming, R: Wait + Abort, D: Disk + Drop>(
     requires { unnamed ≡ J.vault }
 {
     let (vault, mut passes) = begun::<J, D>(unnamed);
-    let mut second: At<R, D, J> = seated(rt, &vault, &mut passes);
-    let mut first: At<R, D, J> = seated(rt, &vault, &mut passes);
+    let mut second = seated::<J, R, D>(rt, &vault, &mut passes).expect(rt, "a pass is left");
+    let mut first = seated::<J, R, D>(rt, &vault, &mut passes).expect(rt, "a pass is left");
     assert!(rt; first.number() == 1 && second.number() == 2);
     store_and_find(rt, alloc, &mut first, &mut second);
     let all = vault.join(first.into_pass(), second.into_pass());
@@ -48,9 +50,9 @@ fn stored_by_shelves<J: Naming, R: Wait + Abort, D: Disk + Drop>(
 
 // Each of two shelves stores a capture, and finds and brings that of the other.
 fn store_and_find<R: Abort, S: Shelf>(rt: &R, alloc: Global, first: &mut S, second: &mut S) {
-    let own = stored(alloc, first, &first_capture(rt, alloc));
+    let own = stored(alloc, first, &made(rt, first_capture(alloc)));
     assert!(rt; found_by_date(rt, alloc, first, FIRST) == Some(0));
-    let other = stored(alloc, second, &second_capture(rt, alloc));
+    let other = stored(alloc, second, &made(rt, second_capture(alloc)));
     assert!(rt; are_first_and_second(own, other));
     assert!(rt; found_by_date(rt, alloc, second, FIRST) == Some(0));
     assert!(rt; found_by_date(rt, alloc, first, SECOND) == Some(1));

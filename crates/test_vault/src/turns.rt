@@ -2,11 +2,7 @@
 ghost use Rattle.std.specs.Prelude.{◌≡◌};
 ghost use Rattle.warc_text.specs.Fits.{Fits};
 
-use crate::captures::{FIRST, SECOND, first_capture, second_capture};
-use crate::passes::{
-    StoreAnswer, are_first_and_second, begun, found_by_date, has_both, seated, stored_at,
-    vault_over,
-};
+use crate::answers::{are_first_and_second, found_by_date, has_both, made};
 use archive_shelf::Finder;
 use capture::Taken;
 use disk_model::{Disk, MemoryDisk};
@@ -17,6 +13,9 @@ use std::sync::Wait;
 use std::test::*;
 use std::thread::{Threads, join};
 use vault::{At, Naming, Unnamed};
+use vault_passes::{
+    FIRST, SECOND, StoreAnswer, begun, first_capture, seated, second_capture, stored_at, vault_over,
+};
 
 // Two captures are stored by two shelves, each in a thread of its own.
 fn stored_beside<'a, J: Naming + Send + Sync, R: Threads + Wait + Sync, D: Disk + Send>(
@@ -58,7 +57,9 @@ fn two_passes_store_in_two_threads(rt: HostRuntime) -> Result<(), Fail> {
 
 fn both_stored<R: Threads + Wait + Abort + Sync>(rt: &R, alloc: Global) {
     let disk = MemoryDisk::new(alloc, Vec::new(alloc));
-    let unnamed = vault_over(rt, alloc, disk, 3);
+    let Some(unnamed) = vault_over(rt, alloc, disk, 3) else {
+        panic!(rt; "no vault")
+    };
     stored_in_threads::<Brand, R, MemoryDisk>(rt, alloc, unnamed);
 }
 
@@ -71,9 +72,9 @@ fn stored_in_threads<
     requires { unnamed ≡ J.vault }
 {
     let (vault, mut passes) = begun::<J, D>(unnamed);
-    let first: At<R, D, J> = seated(rt, &vault, &mut passes);
-    let second: At<R, D, J> = seated(rt, &vault, &mut passes);
-    let mut third: At<R, D, J> = seated(rt, &vault, &mut passes);
+    let first = seated::<J, R, D>(rt, &vault, &mut passes).expect(rt, "a pass is left");
+    let second = seated::<J, R, D>(rt, &vault, &mut passes).expect(rt, "a pass is left");
+    let mut third = seated::<J, R, D>(rt, &vault, &mut passes).expect(rt, "a pass is left");
     assert!(rt; found_by_date(rt, alloc, &mut third, FIRST).is_none());
     let (first, second) = both_beside(rt, alloc, first, second);
     // The third pass took no turn, and finds by date what the others stored.
@@ -93,8 +94,8 @@ fn both_beside<'a, J: Naming + Send + Sync, R: Threads + Wait + Abort + Sync, D:
     first: At<'a, R, D, J>,
     second: At<'a, R, D, J>,
 ) -> (At<'a, R, D, J>, At<'a, R, D, J>) {
-    let one = first_capture(rt, alloc);
-    let other = second_capture(rt, alloc);
+    let one = made(rt, first_capture(alloc));
+    let other = made(rt, second_capture(alloc));
     let (first, second) = stored_beside(rt, alloc, first, &one, second, &other);
     assert!(rt; are_first_and_second(first.1, second.1) || are_first_and_second(second.1, first.1));
     (first.0, second.0)

@@ -1,10 +1,7 @@
 //! A vault compares before its committing turn. No clause says so: one that compares within it would hold up all other passes meanwhile.
-ghost use Rattle.std.specs.Prelude.{◌≡◌};
+ghost use Rattle.std.specs.Prelude.{◌≡◌, IfSome};
 ghost use Rattle.warc_text.specs.Fits.{Fits};
 
-use crate::captures::{different_capture, first_capture, second_capture};
-use crate::passes::{StoreAnswer, begun, seated, stored, stored_at, vault_over};
-use crate::waiting_disk::{Meeting, WaitingDisk};
 use archive_core::Archive;
 use archive_shelf::Shelf;
 use capture::Taken;
@@ -17,6 +14,11 @@ use std::sync::{Arc, Wait};
 use std::test::*;
 use std::thread::{Threads, join};
 use vault::{At, Naming, Unnamed};
+use vault_passes::{
+    StoreAnswer, begun, different_capture, first_capture, seated, second_capture, stored,
+    stored_at, vault_over,
+};
+use waiting_disk::{Meeting, WaitingDisk};
 
 #[test]
 fn another_pass_reads_between_a_comparison_and_its_commit(rt: HostRuntime) -> Result<(), Fail> {
@@ -40,7 +42,9 @@ fn is_asked_between<R: Threads + Wait + Clock + Abort + Sync>(rt: &R, host: Host
         panic!(rt; "no memory")
     };
     let disk = WaitingDisk::new(host, alloc, other);
-    let unnamed = vault_over(rt, alloc, disk, 2);
+    let Some(unnamed) = vault_over(rt, alloc, disk, 2) else {
+        panic!(rt; "no vault")
+    };
     let archive = met::<Brand, R, WaitingDisk>(rt, alloc, unnamed, &meeting);
     archive.close().was_asked_between()
 }
@@ -55,18 +59,29 @@ fn met<J: Naming + Send + Sync, R: Threads + Wait + Clock + Abort + Sync, D: Dis
     requires name { unnamed ≡ J.vault }
 {
     let (vault, mut passes) = begun::<J, D>(unnamed);
-    let mut first: At<R, D, J> = seated(rt, &vault, &mut passes);
-    let second: At<R, D, J> = seated(rt, &vault, &mut passes);
+    let mut first = seated::<J, R, D>(rt, &vault, &mut passes).expect(rt, "a pass is left");
+    let second = seated::<J, R, D>(rt, &vault, &mut passes).expect(rt, "a pass is left");
     store_two(rt, alloc, &mut first);
     let (first, second) = third_stored(rt, alloc, first, second, meeting);
     let all = vault.join(first.into_pass(), second.into_pass());
     vault.close(rt, all)
 }
 
+// The capture, where one was made.
+fn made<R: Abort>(rt: &R, capture: Option<Taken>) -> Taken
+    requires { IfSome capture Fits }
+    ensures { Fits result }
+{
+    match capture {
+        Some(taken) => taken,
+        None => panic!(rt; "no capture"),
+    }
+}
+
 // Stores two captures of different payloads.
 fn store_two<R: Abort, S: Shelf>(rt: &R, alloc: Global, shelf: &mut S) {
-    let _first = stored(alloc, shelf, &first_capture(rt, alloc));
-    let _second = stored(alloc, shelf, &different_capture(rt, alloc));
+    let _first = stored(alloc, shelf, &made(rt, first_capture(alloc)));
+    let _second = stored(alloc, shelf, &made(rt, different_capture(alloc)));
 }
 
 // Stores a third capture, with the payload of the first, while the other pass brings the second one.
@@ -82,7 +97,7 @@ fn third_stored<
     second: At<'a, R, D, J>,
     meeting: &Meeting,
 ) -> (At<'a, R, D, J>, At<'a, R, D, J>) {
-    let other = second_capture(rt, alloc);
+    let other = made(rt, second_capture(alloc));
     let ((first, answer), second) = stored_while_asked(rt, alloc, first, &other, second, meeting);
     assert!(rt; answer.number == 2 && answer.same == Some(0));
     (first, second)

@@ -6,62 +6,20 @@ ghost use Rattle.capture.specs.Faults.{CountsFaults};
 ghost use Rattle.disk_model.specs.Device.{reading_of};
 ghost use Rattle.disk_model.specs.Image.{file_count, file_of, no_files};
 
+use crate::meeting::Meeting;
 use capture::Failed;
 use disk_model::{Disk, Kind, MemoryDisk};
 use std::alloc::Global;
-use std::rt::Clock;
 use std::sync::Arc;
-use std::sync::atomic::{AtomicU64, Ordering};
-use std::thread;
-use std::time::Duration;
 
-// Where the groups of the first two captures begin, and where they end: behind a warcinfo of 311 bytes, each of 717 bytes.
+/// Where the groups of the first two captures begin, and where they end: behind a warcinfo of 311 bytes, each of 717 bytes.
 const FIRST: u64 = 311;
 
 const SECOND: u64 = 1_028;
 
 const THIRD: u64 = 1_745;
 
-// Two threads that wait for each other.
-#[derive(Drop)]
-pub(crate) struct Meeting {
-    reads: AtomicU64,
-    asks: AtomicU64,
-}
-
-impl Meeting {
-    pub(crate) fn new() -> Meeting {
-        Meeting {
-            reads: AtomicU64::new(0),
-            asks: AtomicU64::new(0),
-        }
-    }
-
-    // Says that the disk is being read, and waits until the other thread is about to ask, and a little longer.
-    fn read<R: Clock>(&self, rt: &R) {
-        self.reads.store(1, Ordering::SeqCst);
-        wait_for(rt, &self.asks);
-        thread::sleep(rt, Duration::from_millis(20));
-    }
-
-    // Waits until the disk is being read, and says that this thread is about to ask.
-    pub(crate) fn ask<R: Clock>(&self, rt: &R) {
-        wait_for(rt, &self.reads);
-        self.asks.store(1, Ordering::SeqCst);
-    }
-}
-
-// Waits until the flag is set, for ten seconds at most.
-fn wait_for<R: Clock>(rt: &R, flag: &AtomicU64) {
-    for _ in 0..10_000 {
-        if flag.load(Ordering::SeqCst) == 1 {
-            return;
-        }
-        thread::sleep(rt, Duration::from_millis(1));
-    }
-}
-
-// What was done with the disk.
+/// What was done with the disk.
 #[derive(Clone, Copy, PartialEq)]
 enum Call {
     ReadFirst,
@@ -69,8 +27,9 @@ enum Call {
     Wrote,
 }
 
+/// A disk that passes each call on to a disk in memory and logs it.
 #[derive(Drop)]
-pub(crate) struct WaitingDisk {
+pub struct WaitingDisk {
     rt: HostRuntime,
     meeting: Arc<Meeting>,
     inner: MemoryDisk,
@@ -80,7 +39,8 @@ pub(crate) struct WaitingDisk {
 }
 
 impl WaitingDisk {
-    pub(crate) fn new(rt: HostRuntime, alloc: Global, meeting: Arc<Meeting>) -> WaitingDisk {
+    /// An empty disk, at whose first read of the first capture the thread waits for the other one.
+    pub fn new(rt: HostRuntime, alloc: Global, meeting: Arc<Meeting>) -> WaitingDisk {
         WaitingDisk {
             rt,
             meeting,
@@ -91,9 +51,9 @@ impl WaitingDisk {
         }
     }
 
-    // Whether, from the first read of the first capture on, the second one was read behind the last read of the first and before the
-    // first write.
-    pub(crate) fn was_asked_between(&self) -> bool {
+    /// Whether, from the first read of the first capture on, the second one was read behind the last read of the first and before the
+    /// first write.
+    pub fn was_asked_between(&self) -> bool {
         let calls = self.calls.as_slice();
         let Some(start) = calls.iter().position(|call| *call == Call::ReadFirst) else {
             return false;
@@ -110,14 +70,14 @@ impl WaitingDisk {
         }
     }
 
-    // Logs a call. Where there is no memory for that, nothing is logged any more.
+    /// Logs a call. Where there is no memory for that, nothing is logged any more.
     fn log(&mut self, call: Call)
         ensures { self.new.faults ≡ self.old.faults }
     {
         let _logged = self.calls.push(call).is_ok();
     }
 
-    // Logs a read from this place on.
+    /// Logs a read from this place on.
     fn log_read(&mut self, at: u64)
         ensures { self.new.faults ≡ self.old.faults }
     {
@@ -134,7 +94,7 @@ impl WaitingDisk {
         }
     }
 
-    // Waits for the other thread, where it hasn't done so yet.
+    /// Waits for the other thread, where it hasn't done so yet.
     fn wait(&mut self)
         ensures { self.new.faults ≡ self.old.faults }
     {
@@ -145,7 +105,7 @@ impl WaitingDisk {
         self.meeting.read(&self.rt);
     }
 
-    // Counts a failure.
+    /// Counts a failure.
     fn answer<T: Drop>(&mut self, answer: Result<T, Failed>) -> Result<T, Failed>
         ensures { CountsFaults self.old.faults self.new.faults result }
     {
@@ -157,7 +117,7 @@ impl WaitingDisk {
     }
 }
 
-// Whether the disk has the file, and its bytes up to this place.
+/// Whether the disk has the file, and its bytes up to this place.
 fn reach(disk: &MemoryDisk, kind: Kind, file: u32, end: u64) -> Result<(), Failed>
     ensures there { OnOk result (file < file_count (reading_of disk.now) kind) }
     ensures in_range { OnOk result (end ≤ length (file_of (reading_of disk.now) kind file)) }

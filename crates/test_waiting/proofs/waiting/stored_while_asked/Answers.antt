@@ -3,7 +3,7 @@ use denote.Param.Send.{sendable}
 use Rattle.std.proofs.Crossing.{crosses}
 use Rattle.capture.proofs.captured.Taken.TheSendSync as taken
 use Rattle.vault.proofs.Moving.{at_send}
-use Rattle.test_vault.proofs.waiting.stored_while_asked.Goals as goal
+use Rattle.test_waiting.proofs.waiting.stored_while_asked.Goals as goal
 
 pub join-requires-send-F : goal.join-requires-send-F
 join-requires-send-F g c κs within =

@@ -1,6 +1,6 @@
 -- Nothing is.
 use Rattle.vault.specs.History.{not_sure}
-use Rattle.test_vault.proofs.passes.not_said.Given as goal
+use Rattle.vault_passes.proofs.passes.not_said.Given as goal
 
 abbrev pub ghost-told_by : goal.ghost-told_by
 ghost-told_by g a = not_sure

@@ -1,0 +1,134 @@
+//! A vault over an archive without captures, and its passes.
+ghost use Rattle.std.specs.Prelude.{◌≡◌, ◌<◌, ◌≤◌, false, IfSome};
+ghost use Rattle.std.specs.List.{All};
+ghost use Rattle.warc_text.specs.Fits.{Fits};
+ghost use Rattle.vault.specs.Members.{IsMember};
+
+use archive_core::Archive;
+use archive_reopening::reopen;
+use archive_shelf::{Depth, Shelf};
+use capture::{Limits, Taken};
+use disk_model::Disk;
+use shown::Shown;
+use std::alloc::Global;
+use std::sync::Wait;
+use vault::{At, Naming, Sure, Unnamed, Vault, VaultPass};
+
+/// It isn't said what a crash may leave of the archive.
+fn not_said<R>(rt: &R) -> Shown<Sure>
+    ensures calm { result.value.calm ≡ false }
+    ensures right { result.value.right ≡ false }
+    ensures lasts { result.value.lasts ≡ false }
+{
+    Shown::told_by(rt)
+}
+
+/// The vault and its passes.
+pub fn begun<J: Naming, D: Disk>(unnamed: Unnamed<D>) -> (Vault<D>, Vec<VaultPass>)
+    requires { unnamed ≡ J.vault }
+    ensures vault { result.0 ≡ J.vault.lock }
+    ensures passes { All (λ p. IsMember J.vault p.known) result.1.items }
+{
+    unnamed.named::<J>()
+}
+
+/// The last pass of these, if there is one.
+fn next_pass<J: Naming>(passes: &mut Vec<VaultPass>) -> Option<VaultPass>
+    requires { All (λ p. IsMember J.vault p.known) passes.old.items }
+    ensures member { IfSome result (λ pass. IsMember J.vault pass.known) }
+    ensures others { All (λ p. IsMember J.vault p.known) passes.new.items }
+{
+    passes.pop()
+}
+
+/// The last pass of these at its vault, if there is one.
+pub fn seated<'a, J: Naming, R, D: Disk>(
+    rt: &'a R,
+    vault: &'a Vault<D>,
+    passes: &mut Vec<VaultPass>,
+) -> Option<At<'a, R, D, J>>
+    requires vault { vault.now ≡ J.vault.lock }
+    requires members { All (λ p. IsMember J.vault p.known) passes.old.items }
+    ensures { All (λ p. IsMember J.vault p.known) passes.new.items }
+{
+    let Some(pass) = next_pass::<J>(passes) else {
+        return None;
+    };
+    Some(At::new(rt, vault, pass))
+}
+
+/// A vault round the archive of a disk, with so many passes. `None` where there is no memory, or the disk has no archive.
+pub fn vault_over<R: Wait, D: Disk + Drop>(
+    rt: &R,
+    alloc: Global,
+    disk: D,
+    passes: u32,
+) -> Option<Unnamed<D>>
+    requires { (0 < passes) × (passes ≤ 17) }
+{
+    match reopen(alloc, disk, None, limits(), Depth::Whole) {
+        Ok(archive) => round(rt, alloc, archive, passes),
+        Err(_) => None,
+    }
+}
+
+fn round<R: Wait, D: Disk + Drop>(
+    rt: &R,
+    alloc: Global,
+    archive: Archive<D>,
+    passes: u32,
+) -> Option<Unnamed<D>>
+    requires { (0 < passes) × (passes ≤ 17) }
+{
+    match Unnamed::new(alloc, rt, archive, passes, not_said(rt)) {
+        Ok(unnamed) => Some(unnamed),
+        Err(_) => None,
+    }
+}
+
+fn limits() -> Limits
+    ensures { result ≡ record { volume_bytes = 1000000; captures = 100 } }
+{
+    Limits {
+        volume_bytes: 1_000_000,
+        captures: 100,
+    }
+}
+
+/// Stores a capture, and says which number it has, and to which one it refers.
+pub fn stored<S: Shelf>(alloc: Global, shelf: &mut S, taken: &Taken) -> StoreAnswer
+    requires { Fits taken.now }
+{
+    match shelf.store(alloc, taken) {
+        Ok(receipt) => StoreAnswer {
+            number: receipt.number,
+            same: receipt.same_as,
+        },
+        Err(_) => StoreAnswer {
+            number: u32::MAX,
+            same: None,
+        },
+    }
+}
+
+/// The same for a pass, which is given back.
+pub fn stored_at<'a, J: Naming, R: Wait, D: Disk>(
+    alloc: Global,
+    mut at: At<'a, R, D, J>,
+    taken: &Taken,
+) -> (At<'a, R, D, J>, StoreAnswer)
+    requires { Fits taken.now }
+{
+    let answer = stored(alloc, &mut at, taken);
+    (at, answer)
+}
+
+/// What a store answered: the capture's number and that of the one that it refers to. Where it was refused, the number is the last
+/// one that there is.
+#[derive(Clone, Copy)]
+pub struct StoreAnswer {
+    /// The capture's number.
+    pub number: u32,
+    /// That of the one that it refers to.
+    pub same: Option<u32>,
+}
