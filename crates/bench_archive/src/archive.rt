@@ -1,13 +1,10 @@
 //! The archive over a disk in memory: captures stored through the session's call, one connection after another, and opened
 //! again.
-ghost use Rattle.std.specs.Prelude.{◌<◌, ◌≤◌, ◌^◌, IsTrue};
-ghost use Rattle.warc_journal.specs.Journals.{IsInStep};
+ghost use Rattle.std.specs.Prelude.{◌<◌, ◌≤◌, ◌^◌, IsTrue, OnOk};
+ghost use Rattle.warc_journal.specs.Journals.{IsInStep, volumes};
 
-use crate::connections::{CONNECTION, Connection, site};
-use crate::load;
-use crate::opening::opened;
-use crate::volumes::{add, begin, journal_of_nothing};
 use archive_shelf::{Counts, Depth, Shelf};
+use bench_stock::{CONNECTION, Connection, add, begin, journal_of_nothing, opened, site, taken};
 use disk_model::{Disk, MemoryDisk};
 use measuring::{Measured, Stopped, resident};
 use std::alloc::Global;
@@ -99,10 +96,25 @@ fn add_captures<D: Disk>(
     let namespace = Uuid::from_bytes([7; 16]);
     begin(alloc, journal, &namespace)?;
     'adding: for number in 0..captures {
-        let taken = load::taken(alloc, number)?;
-        add(alloc, journal, &namespace, number, &taken)?;
+        add_taken(alloc, journal, &namespace, number)?;
     }
     Ok(())
+}
+
+/// Adds the capture of an exchange of the load to the last volume.
+fn add_taken<D: Disk>(
+    alloc: Global,
+    journal: &mut Journal<D>,
+    namespace: &Uuid,
+    number: u32,
+) -> Result<(), Stopped>
+    requires volumes { 0 < volumes journal.old }
+    requires in_step { IsTrue D.tells → IsInStep D.Disk journal.old }
+    ensures volumes { OnOk result (0 < volumes journal.new) }
+    ensures in_step { OnOk result (IsTrue D.tells → IsInStep D.Disk journal.new) }
+{
+    let taken = taken(alloc, number)?;
+    add(alloc, journal, namespace, number, &taken)
 }
 
 /// Opens an archive, and prints how long that took.

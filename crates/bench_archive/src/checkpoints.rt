@@ -1,8 +1,7 @@
 //! Checkpoints: what it costs to write them, and to open an archive by them in place of reading its volumes whole.
-use crate::opening::opened;
-use crate::stock::Stock;
 use archive_core::Archive;
 use archive_shelf::Depth;
+use bench_stock::{Stock, opened};
 use disk_model::{Disk, MemoryDisk};
 use measuring::{Measured, Stopped, print_share, resident};
 use std::alloc::Global;

@@ -1,4 +1,4 @@
-//! Measures what an archive, and a vault round it, cost in time and memory. It is run by hand, since no contract speaks of either.
+//! Measures what an archive costs in time and memory. It is run by hand, since no contract speaks of either.
 //!
 //! The word names a topic. Each line of what it prints is a mean over the items of one loop, or the share that one loop's time is of
 //! another's in the same run.
@@ -6,31 +6,35 @@
 
 mod archive;
 mod checkpoints;
-mod connections;
-mod load;
-mod opening;
-mod passes;
-mod shared;
-mod stock;
 mod volumes;
 
 use measuring::Stopped;
+use std::alloc::Global;
 use std::env;
+use std::io::Print;
+use std::rt::{Clock, Files};
 
 fn main(rt: HostRuntime) -> Result<(), Stopped> {
     let mut words = env::args(&rt)?.skip(1);
     let word = words.next();
-    match word.as_ref().map(String::as_str) {
-        Some("archive") => archive::measure(&rt, rt.alloc()),
-        Some("checkpoints") => checkpoints::measure(&rt, rt.alloc()),
-        Some("passes") => passes::measure(&rt, rt.alloc()),
-        Some("vault") => shared::measure(&rt, rt.alloc()),
-        Some("volumes") => volumes::measure(&rt, rt.alloc()),
-        _ => {
-            println!(rt;
-                "usage: bench_archive TOPIC, which is archive, checkpoints, passes, vault or volumes"
-            )?;
-            Ok(())
-        }
+    measure(&rt, rt.alloc(), word.as_ref().map(String::as_str))
+}
+
+/// Measures a topic. Where the word is none it tells them.
+fn measure<R: Clock + Files + Print>(
+    rt: &R,
+    alloc: Global,
+    word: Option<&str>,
+) -> Result<(), Stopped> {
+    match word {
+        Some("archive") => archive::measure(rt, alloc),
+        Some("checkpoints") => checkpoints::measure(rt, alloc),
+        Some("volumes") => volumes::measure(rt, alloc),
+        _ => print_usage(rt),
     }
+}
+
+fn print_usage<R: Print>(rt: &R) -> Result<(), Stopped> {
+    println!(rt; "usage: bench_archive TOPIC, which is archive, checkpoints or volumes")?;
+    Ok(())
 }

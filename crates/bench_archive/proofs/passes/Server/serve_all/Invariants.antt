@@ -1,5 +1,0 @@
-use Rattle.bench_archive.proofs.passes.Server.serve_all.Given as goal
-
--- how many connections are left
-abbrev pub decreases-loop-connection : goal.decreases-loop-connection
-decreases-loop-connection g l = goal.left-loop-connection g l

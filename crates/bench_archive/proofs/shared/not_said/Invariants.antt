@@ -1,6 +1,0 @@
--- Nothing is.
-use Rattle.vault.specs.History.{not_sure}
-use Rattle.bench_archive.proofs.shared.not_said.Given as goal
-
-abbrev pub ghost-told_by : goal.ghost-told_by
-ghost-told_by g a = not_sure

@@ -1,6 +1,0 @@
-use Rattle.std.specs.Prelude.{◌<◌, IsTrue}
-use Rattle.warc_journal.specs.Journals.{IsInStep, volumes}
-use Rattle.bench_archive.proofs.stock.add_volume.Given as goal
-
-abbrev pub invariant-adding : goal.invariant-adding
-invariant-adding g l = (0 < volumes l.journal) × (IsTrue g.D.Disk.tells → IsInStep g.D.Disk l.journal)

@@ -1,0 +1,5 @@
+use Rattle.bench_vault.proofs.passes.Server.serve_all.Given as goal
+
+-- how many connections are left
+abbrev pub decreases-loop-connection : goal.decreases-loop-connection
+decreases-loop-connection g l = goal.left-loop-connection g l
