@@ -1,11 +1,12 @@
 //! A step that opens an archive by both depths, and tells which of them asks for less.
-ghost use Rattle.case_archive.specs.Opening.{IsOpening};
+ghost use Rattle.case_stores.specs.Opening.{IsOpening};
 
 use crate::held::Held;
-use crate::opening::{Opening, reopened};
+use crate::opening::reopened;
 use archive_shelf::Depth;
 use capture::Memory;
 use case_disk::{Outcome, after};
+use case_stores::Opening;
 use disk_model::MemoryDisk;
 use std::alloc::Global;
 

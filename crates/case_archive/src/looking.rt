@@ -6,12 +6,12 @@ ghost use Rattle.archive_core.specs.Looking.{IsRightOf};
 ghost use Rattle.case_archive.specs.Timing.{IsTimed};
 ghost use Rattle.case_captures.specs.Preparing.{IsPayloadOfTaken, IsPrepared};
 
-use crate::storing::{receipt_text, store_fault_text};
 use archive_core::{Archive, compared_payloads_serve_later};
 use archive_shelf::{Looked, StoreFault};
 use capture::{Digest, Memory, growth_keeps_captures};
 use case_captures::{Prepared, exchanged_in, prepared_of};
 use case_language::{number_in, split_word};
+use case_stores::{receipt_text, store_fault_text};
 use digest32::payload_digest;
 use disk_model::{Disk, MemoryDisk};
 use std::alloc::Global;

@@ -1,16 +1,16 @@
 //! Plays the steps of a case.
 use crate::altered::{AlteredDisk, Change};
-use crate::asking::told;
+use crate::checkpoints::{checkpoint_in, put_checkpoint};
 use crate::depths::opened_by_both;
 use crate::held::Held;
 use crate::looking::{stored_after, timed_in};
-use crate::opening::{opened, opening_in};
-use crate::settling::{checkpoint_in, put_checkpoint};
+use crate::opening::opened;
 use archive_core::Archive;
 use archive_shelf::Depth;
 use capture::Memory;
 use case_disk::{Deed, Outcome, Player, after, kept, outcome_of_steps};
 use case_language::number_in;
+use case_stores::{opening_in, told};
 use disk_model::{Disk, MemoryDisk};
 use std::alloc::Global;
 

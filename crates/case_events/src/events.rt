@@ -1,16 +1,16 @@
 //! Lists of events over an archive, and what each replies.
 ghost use Rattle.std.specs.Prelude.{All, IfOk, IfSome};
-ghost use Rattle.case_archive.specs.Listing.{IsListing};
-ghost use Rattle.case_archive.specs.Opening.{IsOpening};
+ghost use Rattle.case_events.specs.Listing.{IsListing};
+ghost use Rattle.case_stores.specs.Opening.{IsOpening};
 ghost use Rattle.event_core.specs.Events.{CanCome};
 ghost use Rattle.warc_text.specs.Fits.{Fits};
 
-use crate::opening::{Opening, opening_in};
 use crate::replies::put_ran;
 use capture::{Limits, Memory, Taken};
 use case_captures::{exchanged_in, prepared_of};
 use case_disk::{Deed, Outcome};
 use case_language::{number_in, split_word};
+use case_stores::{Opening, opening_in};
 use case_texts::key_in;
 use disk_model::MemoryDisk;
 use event_core::{Event, run_events};

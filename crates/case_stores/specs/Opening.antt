@@ -2,7 +2,7 @@
 use Rattle.std.specs.Prelude.{IfSome}
 use Rattle.warc_text.specs.Ids.{IsUuid}
 use Rattle.archive_core.specs.Holdings.{AreLimits}
-use Rattle.case_archive.specs.declared.opening.Opening.{Opening as Asked}
+use Rattle.case_stores.specs.declared.terms.Opening.{Opening as Asked}
 
 -- the limits are ones that an archive can have, and the namespace is one
 pub record IsOpening (opening : Asked) : Type 0 where

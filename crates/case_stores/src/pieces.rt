@@ -1,5 +1,5 @@
 //! Steps that give the pieces of captures and tell the volumes.
-use crate::finding::fault_bytes;
+use crate::finding::bring_fault_bytes;
 use archive_core::Archive;
 use archive_shelf::Shelf;
 use archive_volumes::VolumeFacts;
@@ -12,7 +12,7 @@ use std::alloc::Global;
 pub fn piece_of<S: Shelf>(alloc: Global, shelf: &mut S, number: u32) -> Result<Vec<u8>, Memory> {
     match shelf.piece(alloc, number) {
         Ok(piece) => Ok(Vec::from_slice(alloc, piece.as_slice())?),
-        Err(fault) => fault_bytes(alloc, fault),
+        Err(fault) => bring_fault_bytes(alloc, fault),
     }
 }
 

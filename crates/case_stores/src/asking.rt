@@ -2,8 +2,8 @@
 use crate::filling::{filled, load_in};
 use crate::finding::{brought, entry_text, found_by_date, mapped, starting_with};
 use crate::following::piece_taken;
-use crate::opening::counts_text;
 use crate::pieces::{piece_of, volumes_text};
+use crate::replying::counts_text;
 use crate::settling::settled;
 use crate::storing::{compared, rolled, stored};
 use crate::words;

@@ -13,11 +13,12 @@ use surt_key::Key;
 pub fn brought<S: Shelf>(alloc: Global, shelf: &mut S, number: u32) -> Result<Vec<u8>, Memory> {
     match shelf.bring(alloc, number) {
         Ok(brought) => brought_text(alloc, &brought),
-        Err(fault) => fault_bytes(alloc, fault),
+        Err(fault) => bring_fault_bytes(alloc, fault),
     }
 }
 
-pub(crate) fn brought_text(alloc: Global, brought: &Brought) -> Result<Vec<u8>, Memory> {
+/// The same of a capture that was brought.
+pub fn brought_text(alloc: Global, brought: &Brought) -> Result<Vec<u8>, Memory> {
     let mut out = Vec::new(alloc);
     put_brought(&mut out, brought)?;
     Ok(out)
@@ -32,7 +33,7 @@ fn put_brought(out: &mut Vec<u8>, brought: &Brought) -> Result<(), Memory> {
 }
 
 /// Why no capture was brought.
-pub fn fault_bytes(alloc: Global, fault: BringFault) -> Result<Vec<u8>, Memory> {
+pub fn bring_fault_bytes(alloc: Global, fault: BringFault) -> Result<Vec<u8>, Memory> {
     let text = fault_text(alloc, fault)?;
     Ok(text.into_bytes())
 }
@@ -81,7 +82,8 @@ fn nearest_to<F: Finder>(
     }
 }
 
-pub(crate) fn number_text(alloc: Global, number: u32) -> Result<String, Memory> {
+/// A number.
+pub fn number_text(alloc: Global, number: u32) -> Result<String, Memory> {
     Ok(format!(in alloc; "{number}")?)
 }
 
@@ -119,7 +121,8 @@ fn beginning_with<F: Finder>(alloc: Global, finder: &mut F, key: &Key) -> Result
     numbers_of(alloc, entries.as_slice())
 }
 
-pub(crate) fn numbers_of(alloc: Global, entries: &[Entry]) -> Result<Vec<u8>, Memory> {
+/// The numbers of these, in order.
+pub fn numbers_of(alloc: Global, entries: &[Entry]) -> Result<Vec<u8>, Memory> {
     let mut out = Vec::new(alloc);
     put_numbers(&mut out, entries)?;
     Ok(out)

@@ -1,20 +1,8 @@
-//! Steps that write the checkpoints of volumes: an archive those of its own, and a case any text.
-use archive_core::Archive;
-use capture::{Failed, Memory};
+//! A step that lets the file of a volume's checkpoint hold any text.
+use capture::Failed;
 use case_disk::reach;
 use case_language::TextWords;
-use checkpoint::CheckpointFault;
 use disk_model::{Disk, Kind, MemoryDisk};
-use std::alloc::Global;
-
-/// `settled` and how many checkpoints were written; or the fault.
-pub fn settled<D: Disk>(alloc: Global, archive: &mut Archive<D>) -> Result<String, Memory> {
-    match archive.settle(alloc) {
-        Ok(written) => Ok(format!(in alloc; "settled {written}")?),
-        Err(CheckpointFault::DiskFault) => Ok(String::from_str(alloc, "DiskFault")?),
-        Err(CheckpointFault::Memory) => Err(Memory),
-    }
-}
 
 /// The number of a checkpoint's file, and behind a space its text.
 pub fn checkpoint_in(text: &[u8]) -> Option<(u32, &[u8])> {

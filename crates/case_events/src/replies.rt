@@ -1,10 +1,11 @@
 //! What events reply, as texts.
-use crate::finding::{brought_text, fault_bytes, number_text, numbers_of};
-use crate::opening::{counts_text, fault_text};
-use crate::storing::{receipt_text, store_fault_text};
 use archive_shelf::RollFault;
 use capture::Memory;
 use case_disk::Outcome;
+use case_stores::{
+    bring_fault_bytes, brought_text, counts_text, number_text, numbers_of, receipt_text,
+    reopen_fault_text, store_fault_text,
+};
 use checkpoint::CheckpointFault;
 use event_core::{EventFault, Ran, RanEnd, Reply};
 use std::alloc::Global;
@@ -30,7 +31,7 @@ fn put_end(alloc: Global, outcome: &mut Outcome, end: RanEnd) -> Result<(), Memo
     match end {
         RanEnd::All => Ok(()),
         RanEnd::NotOpened(fault) => {
-            let text = fault_text(alloc, fault)?;
+            let text = reopen_fault_text(alloc, fault)?;
             outcome.put_answer(alloc, text.as_bytes())
         }
         RanEnd::Memory => Err(Memory),
@@ -41,7 +42,7 @@ fn reply_bytes(alloc: Global, reply: &Reply) -> Result<Vec<u8>, Memory> {
     match reply {
         Reply::Brought(brought) => brought_text(alloc, brought),
         Reply::Mapped(entries) => numbers_of(alloc, entries.as_slice()),
-        Reply::Refused(EventFault::Bring(fault)) => fault_bytes(alloc, *fault),
+        Reply::Refused(EventFault::Bring(fault)) => bring_fault_bytes(alloc, *fault),
         _ => bytes_of(reply_text(alloc, reply)),
     }
 }

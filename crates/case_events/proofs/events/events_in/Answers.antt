@@ -3,7 +3,7 @@ use Rattle.std.specs.Prelude.{IfSome}
 use Rattle.std.proofs.lemmas.List.Elements.{All-append, All-cons, All-nil}
 use Rattle.event_core.specs.Events.{CanCome}
 use Rattle.event_core.specs.declared.event.Event.{Event}
-use Rattle.case_archive.proofs.events.events_in.Goals as goal
+use Rattle.case_events.proofs.events.events_in.Goals as goal
 
 pub loop-step-preserved : goal.loop-step-preserved
 loop-step-preserved c =
