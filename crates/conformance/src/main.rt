@@ -8,8 +8,6 @@ mod objects;
 mod play;
 mod ran;
 mod runs;
-mod script;
-mod setting;
 
 use play::play_file;
 use std::process::ExitCode;

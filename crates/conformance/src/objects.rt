@@ -1,7 +1,8 @@
-//! The objects in memory that a case is played over.
-use crate::setting::Setting;
+//! The objects in memory that a run is played over.
 use case_objects::links_of;
-use outside::{MemoryClock, MemoryDialer, MemoryGate, MemoryLink, MemorySink};
+use case_outcomes::dialer_of;
+use case_setting::Setting;
+use outside::{MemoryClock, MemoryDialer, MemoryGate, MemorySink};
 use proxy_run::{CREW, Crew};
 use std::alloc::{AllocError, Global};
 
@@ -32,31 +33,6 @@ fn gate_of(alloc: Global, setting: &Setting) -> Result<MemoryGate, AllocError> {
         fails.client.as_slice(),
     )?;
     Ok(MemoryGate::new(alloc, links, fails.gate.clone()?))
-}
-
-/// The link of the last client. `None` where the case has no client.
-pub fn client_of(alloc: Global, setting: &Setting) -> Result<Option<MemoryLink>, AllocError> {
-    let mut links = links_of(
-        alloc,
-        setting.clients.as_slice(),
-        setting.client_front,
-        setting.pieces,
-        setting.fails.client.as_slice(),
-    )?;
-    Ok(links.pop())
-}
-
-/// The dialer that gives the case's origins.
-pub fn dialer_of(alloc: Global, setting: &Setting) -> Result<MemoryDialer, AllocError> {
-    let fails = &setting.fails;
-    let links = links_of(
-        alloc,
-        setting.origins.as_slice(),
-        setting.origin_front,
-        setting.pieces,
-        fails.origin.as_slice(),
-    )?;
-    Ok(MemoryDialer::new(alloc, links, fails.dial.clone()?))
 }
 
 /// A crew whose first member dials the case's origins and asks the case's clock.

@@ -2,9 +2,9 @@
 use crate::objects::Objects;
 use capture::{Memory, put_number};
 use case_disk::Outcome;
-use case_texts::{put_next, put_next_number};
+use case_outcomes::put_sent;
 use command::Status;
-use outside::{Heard, Transcript};
+use outside::Heard;
 use std::alloc::Global;
 
 /// Puts the lines of all but the files: the status, what was written on each connection and sent over each link, and what
@@ -50,25 +50,4 @@ fn put_heard(alloc: Global, outcome: &mut Outcome, heard: &[Heard]) -> Result<()
         outcome.put(alloc, b"written ", connection.written.as_slice())?;
     }
     Ok(())
-}
-
-/// `sent HOST PORT TEXT` for each link that was hung up.
-pub fn put_sent(
-    alloc: Global,
-    outcome: &mut Outcome,
-    transcripts: &[Transcript],
-) -> Result<(), Memory> {
-    for transcript in transcripts {
-        let text = sent_text(alloc, transcript)?;
-        outcome.put(alloc, b"sent ", text.as_slice())?;
-    }
-    Ok(())
-}
-
-/// `HOST PORT TEXT`
-fn sent_text(alloc: Global, transcript: &Transcript) -> Result<Vec<u8>, Memory> {
-    let mut text = Vec::from_slice(alloc, transcript.host.as_slice())?;
-    put_next_number(&mut text, u64::from(transcript.port))?;
-    put_next(&mut text, transcript.sent.as_slice())?;
-    Ok(text)
 }

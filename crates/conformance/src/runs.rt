@@ -1,10 +1,9 @@
 //! Runs the program over a disk in memory, once or several times.
 use crate::objects::{Objects, objects_of};
 use crate::ran::put_told;
-use crate::script::Script;
-use crate::setting::Setting;
 use capture::Memory;
 use case_disk::{Outcome, after, disk_of, kept};
+use case_setting::{Script, Setting};
 use command::Ran;
 use disk_model::MemoryDisk;
 use proxy_run::{CREW, run};

@@ -6,6 +6,7 @@ use std::alloc::{AllocError, Global};
 /// What is played first, and the runs behind it.
 #[derive(Drop)]
 pub struct Script<'a> {
+    /// What is played first.
     pub first: Setting<'a>,
     /// Each is a run over the disk that the stop behind the one before it leaves.
     pub further: Vec<Setting<'a>>,

@@ -1,4 +1,4 @@
-//! What a case gives to the program.
+//! What one play of a case is given.
 use case_archive::Change;
 use case_disk::{Deed, DiskSetting, Step, Work};
 use case_folder::FolderSetting;
@@ -43,11 +43,17 @@ pub enum Played<'a> {
 /// The numbers of the calls that are to fail, of each object.
 #[derive(Drop)]
 pub struct Fails {
+    /// Those of each client.
     pub client: Vec<u64>,
+    /// Those of the gate.
     pub gate: Vec<u64>,
+    /// Which dials.
     pub dial: Vec<u64>,
+    /// Those of each origin.
     pub origin: Vec<u64>,
+    /// Those of the disk.
     pub disk: Vec<u64>,
+    /// Those of what is printed on.
     pub sink: Vec<u64>,
 }
 
@@ -76,8 +82,11 @@ impl Stops {
 /// The words, what client, origins and clock give, what stands on the disk, and which calls are to fail.
 #[derive(Drop)]
 pub struct Setting<'a> {
+    /// What is played.
     pub played: Played<'a>,
+    /// The words of a run.
     pub words: Vec<&'a str>,
+    /// What the clock shows.
     pub clock: Vec<u64>,
     /// What the client of each connection gives.
     pub clients: Vec<Vec<u8>>,
@@ -85,8 +94,9 @@ pub struct Setting<'a> {
     pub origins: Vec<Vec<u8>>,
     /// How many bytes a call of a link moves at most.
     pub pieces: usize,
-    /// How many bytes of its text each client gives, and each origin.
+    /// How many bytes of its text each client gives.
     pub client_front: usize,
+    /// How many each origin gives.
     pub origin_front: usize,
     /// The volumes that stand on the disk.
     pub volumes: Vec<Vec<u8>>,
@@ -98,6 +108,7 @@ pub struct Setting<'a> {
     pub deeds: Vec<Deed<'a>>,
     /// What the stop behind all that chooses: what reads give, where a case says nothing.
     pub stops: Stops,
+    /// Which calls are to fail.
     pub fails: Fails,
     /// How many calls of the disk pass before each of them fails.
     pub disk_fuse: Option<u64>,
