@@ -1,8 +1,5 @@
-//! Tests of the call `run` that no case can say: over the real objects, and with connections that are served at once, since a case has
-//! objects in memory and one thread.
+//! A test of the call `run` with connections that are served at once. No case can say it: a case has one thread.
 #![tactic(auto)]
 
-#[cfg(test)]
-mod damaged;
 #[cfg(test)]
 mod side_by_side;
