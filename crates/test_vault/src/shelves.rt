@@ -9,7 +9,7 @@ use std::marker::Brand;
 use std::process::Abort;
 use std::sync::Wait;
 use std::test::*;
-use vault::{At, Naming, Unnamed};
+use vault::{Naming, Unnamed};
 use vault_passes::{
     FIRST, PAYLOAD, SECOND, begun, first_capture, seated, second_capture, stored, vault_over,
 };
