@@ -15,7 +15,8 @@ use std::marker::Brand;
 use std::rt::{Clock, Files};
 use std::sync::Wait;
 use surt_key::{Key, key_of};
-use vault::{At, Naming, Sure, Unnamed, Vault, VaultPass};
+use vault::{At, Naming, Unnamed, Vault, VaultPass};
+use vault_turns::Sure;
 
 /// What the archive has.
 const STOCK: Stock = Stock {

@@ -34,7 +34,7 @@ use Rattle.outside.specs.declared.sink.Sink.{Ghosts as Sinks}
 use Rattle.command.proofs.OpeningLaws.{ids_differ, opened_consistent}
 use Rattle.command.proofs.SettlingLaws.{closed_all, closed_from, closed_opens, closed_right, closed_rose, ready_consistent, ready_in, ready_opens, ready_tells, told_tells}
 use Rattle.proxy_run.proofs.ConnectionLaws.{course_one}
-use Rattle.vault.proofs.CalmLaws.{ids_earlier}
+use Rattle.vault_turns.proofs.CalmLaws.{ids_earlier}
 use Rattle.proxy_run.proofs.PipeLaws.{faults_before, faults_behind}
 use Rattle.proxy_run.proofs.StatusLaws.{settled_answered}
 use Rattle.proxy_run.proofs.NextLaws.{all_next, settled_next, sound_still, stands_same}

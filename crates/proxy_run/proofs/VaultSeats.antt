@@ -21,14 +21,14 @@ use Rattle.cdxj_index.specs.OfBook.{AreEntries}
 use Rattle.disk_model.specs.Crash.{Leaves}
 use Rattle.disk_model.specs.declared.disk.Disk.{Ghosts as Disks}
 use Rattle.history_lock.specs.Known.{Known}
-use Rattle.vault.specs.Calm.{IsCalm}
+use Rattle.vault_turns.specs.Calm.{IsCalm}
 use Rattle.vault.specs.Company.{Passing, contents_at, told_at}
-use Rattle.vault.specs.History.{told_book}
-use Rattle.vault.specs.Items.{shown_in}
+use Rattle.vault_turns.specs.History.{told_book}
+use Rattle.vault_turns.specs.Items.{shown_in}
 use Rattle.vault.specs.Members.{AreMembers, AreNewMembers, IsMember, IsMemberAt, IsNewMember, VaultName}
-use Rattle.vault.specs.Own.{own_captures, own_faults}
+use Rattle.vault_turns.specs.Own.{own_captures, own_faults}
 use Rattle.vault.specs.Sharing.{HasItsOwn, IsLeftByAll, IsSharedOut as IsHistoryShared, all_stored}
-use Rattle.vault.specs.declared.noted.Noted.{Noted}
+use Rattle.vault_turns.specs.declared.noted.Noted.{Noted}
 use Rattle.vault.proofs.MemberLaws.{new_captures, new_faults}
 use Rattle.crew.specs.Crews.{IsEnd, ServesAll}
 use Rattle.command.specs.Objects.{Kinds, Objects}

@@ -12,7 +12,7 @@ ghost use Rattle.proxy_run.specs.Pipes.{Refuses};
 ghost use Rattle.proxy_run.specs.Serves.{LacksShelves, Serves};
 ghost use Rattle.command.specs.Words as spec;
 ghost use Rattle.proxy_run.specs.steps.Seating.{IsNameOf};
-ghost use Rattle.vault.specs.Calm.{HasRightCheckpoints, IsCalm};
+ghost use Rattle.vault_turns.specs.Calm.{HasRightCheckpoints, IsCalm};
 ghost use Rattle.warc_journal.specs.Journals.{disk_of};
 ghost use Rattle.warc_text.specs.Ids.{IsUuid};
 
@@ -29,7 +29,8 @@ use std::alloc::Global;
 use std::marker::Brand;
 use std::sync::Wait;
 use std::thread::Threads;
-use vault::{Naming, Sure, Unnamed};
+use vault::{Naming, Unnamed};
+use vault_turns::Sure;
 
 /// What the words ask a server for.
 pub struct Service<'a> {

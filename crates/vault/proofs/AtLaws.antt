@@ -11,12 +11,12 @@ use Rattle.index_snapshot.specs.Edges.{Edge}
 use Rattle.index_snapshot.specs.Entries.{entries_in}
 use Rattle.index_snapshot.proofs.Bringing.{entries_joined}
 use Rattle.vault.specs.Company.{Passing, contents_at, told_at}
-use Rattle.vault.specs.History.{is_told, told_book, told_limits}
-use Rattle.vault.specs.Items.{brings_of, shown_in}
-use Rattle.vault.specs.Listing.{HasSeen, IsListed}
-use Rattle.vault.specs.Own.{own_captures, own_faults}
-use Rattle.vault.specs.declared.item.Item.{Item}
-use Rattle.vault.specs.declared.noted.Noted.{Noted}
+use Rattle.vault_turns.specs.History.{is_told, told_book, told_limits}
+use Rattle.vault_turns.specs.Items.{brings_of, shown_in}
+use Rattle.vault_turns.specs.Listing.{HasSeen, IsListed}
+use Rattle.vault_turns.specs.Own.{own_captures, own_faults}
+use Rattle.vault_turns.specs.declared.item.Item.{Item}
+use Rattle.vault_turns.specs.declared.noted.Noted.{Noted}
 use Rattle.vault.proofs.ShowingLaws.{knows_book}
 
 shown_on : (items more : List Item) → Begins (shown_in items) (shown_in (items ++ more))

@@ -10,23 +10,23 @@ use Rattle.archive_shelf.specs.Answers.{Brings, is_bring_fault}
 use Rattle.archive_shelf.specs.Pieces.{GivesPiece}
 use Rattle.archive_shelf.specs.declared.fault.BringFault.{BringFault}
 use Rattle.history_lock.specs.Known.{Known}
-use Rattle.history_lock.specs.Seen.{Adds, Turn}
+use Rattle.history_lock.specs.Seen.{Turn}
 use Rattle.index_snapshot.specs.Edges.{Edge}
 use Rattle.index_snapshot.specs.Entries.{entries_in}
 use Rattle.logbook.specs.Pages.{Book as LogBook}
 use Rattle.vault.specs.Company.{contents_at}
-use Rattle.vault.specs.History.{IsBegun, Names, NamesIn, by_of, is_told, showing, told_book}
-use Rattle.vault.specs.Items.{brings_of, shown_in}
-use Rattle.vault.specs.Turns.{AddsFaultAlone, BringsIt, GivesIt, held_back}
-use Rattle.vault.specs.declared.item.Item.{Item}
-use Rattle.vault.specs.declared.noted.Kind.{Kind}
-use Rattle.vault.specs.declared.noted.Kind.TheVariants.{Opened, Began, Stored, Failed}
-use Rattle.vault.specs.declared.noted.Noted.{Noted}
-use Rattle.vault.proofs.AnswerLaws.{brings_as, brings_quiet, gives_as, gives_quiet, held_digests, held_fault, held_names, held_piece_digests}
+use Rattle.vault_turns.specs.History.{IsBegun, Names, NamesIn, by_of, is_told, showing, told_book}
+use Rattle.vault_turns.specs.Items.{brings_of, shown_in}
+use Rattle.vault_turns.specs.Turns.{AddsFaultAlone, BringsIt, GivesIt, held_back}
+use Rattle.vault_turns.specs.declared.item.Item.{Item}
+use Rattle.vault_turns.specs.declared.noted.Kind.{Kind}
+use Rattle.vault_turns.specs.declared.noted.Kind.TheVariants.{Opened, Began, Stored, Failed}
+use Rattle.vault_turns.specs.declared.noted.Noted.{Noted}
+use Rattle.vault_turns.proofs.AnswerLaws.{brings_as, brings_quiet, gives_as, gives_quiet, held_digests, held_fault, held_names, held_piece_digests}
 use Rattle.vault.proofs.AtLaws.{shown_begins}
-use Rattle.vault.proofs.HistoryLaws.{begun_append}
-use Rattle.vault.proofs.ItemLaws.{shows_same}
-use Rattle.vault.proofs.PublishLaws.{fault_added}
+use Rattle.vault_turns.proofs.HistoryLaws.{begun_append}
+use Rattle.vault_turns.proofs.ItemLaws.{shows_same}
+use Rattle.vault_turns.proofs.PublishLaws.{fault_added}
 
 -- ---- one list
 
@@ -89,37 +89,6 @@ module _ (tells : Bool) (note shown : List Item) (number : ℕ) (found added : L
     adds = subst (λ (failed : Bool). AddsFaultAlone failed added) (sym (held_fault answer)) h.adds;
     sound = h.sound;
   }
-
--- where fewer entries are shown
-module _ (by : ℕ) (before after : List Noted) (tells : Bool) (more fewer : List Facts) (from : (e : Facts) → Contains fewer e → Contains more e) (number : ℕ) where
-  adds_as : (P Q : List Noted → Type 0) → ((added : List Noted) → P added → Q added) → Adds by_of by before after P → Adds by_of by before after Q
-  adds_as P Q so adds = record {
-    added = adds.added;
-    is_before_and_added = adds.is_before_and_added;
-    of_pass = adds.of_pass;
-    done = so adds.added adds.done;
-  }
-
-  pub adds_brought : (answer : Result Brought BringFault) → Adds by_of by before after (λ added. BringsIt tells more number before added answer)
-      → Adds by_of by before after (λ added. BringsIt tells fewer number before added answer)
-  adds_brought answer =
-      adds_as (λ added. BringsIt tells more number before added answer) (λ added. BringsIt tells fewer number before added answer) (λ added h. record {
-        brings = brings_as (showing more tells before) (showing fewer tells before) refl refl from number answer h.brings;
-        names = h.names;
-        digests = h.digests;
-        adds = h.adds;
-        sound = h.sound;
-      })
-
-  pub adds_given : (answer : Result (List ℕ) BringFault) → Adds by_of by before after (λ added. GivesIt tells more number before added answer)
-      → Adds by_of by before after (λ added. GivesIt tells fewer number before added answer)
-  adds_given answer =
-      adds_as (λ added. GivesIt tells more number before added answer) (λ added. GivesIt tells fewer number before added answer) (λ added h. record {
-        gives = gives_as (showing more tells before) (showing fewer tells before) refl refl from number answer h.gives;
-        digests = h.digests;
-        adds = h.adds;
-        sound = h.sound;
-      })
 
 -- what a turn does, told otherwise
 turn_as : (was : Known Noted) (after : List Noted) (P Q : List Noted → List Noted → Type 0) → ((found added : List Noted) → P found added → Q found added)

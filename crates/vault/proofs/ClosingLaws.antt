@@ -6,16 +6,16 @@ use Rattle.capture.specs.declared.book.Book.{Book}
 use Rattle.capture.specs.declared.limits.Limits.{Limits}
 use Rattle.history_lock.specs.Known.{Known}
 use Rattle.history_lock.specs.Seen.{Shows}
-use Rattle.vault.specs.Calm.{Crash}
+use Rattle.vault_turns.specs.Calm.{Crash}
 use Rattle.vault.specs.Company.{Passing}
-use Rattle.vault.specs.History.{by_of, given_faults, is_told, sure_in, told_limits}
+use Rattle.vault_turns.specs.History.{by_of, given_faults, is_told, sure_in, told_limits}
 use Rattle.vault.specs.Members.{AreMembers, IsMember, IsMemberAt, VaultName}
-use Rattle.vault.specs.Own.{faults_since}
+use Rattle.vault_turns.specs.Own.{faults_since}
 use Rattle.vault.specs.Passes.{IsLeft}
 use Rattle.vault.specs.Sharing.{HasPart, IsLeftByAll, IsSharedOut, IsShownIn}
-use Rattle.vault.specs.declared.noted.Noted.{Noted}
-use Rattle.vault.specs.declared.noted.Sure.{Sure}
-use Rattle.vault.proofs.HistoryLaws.{given_stays, limits_append, sure_stays, told_stays}
+use Rattle.vault_turns.specs.declared.noted.Noted.{Noted}
+use Rattle.vault_turns.specs.declared.noted.Sure.{Sure}
+use Rattle.vault_turns.proofs.HistoryLaws.{given_stays, limits_append, sure_stays, told_stays}
 use Rattle.vault.proofs.MemberLaws.{member_begun}
 use Rattle.vault.proofs.PassLaws.{all_of}
 use Rattle.vault.proofs.SeatLaws.{all_at, first_of}

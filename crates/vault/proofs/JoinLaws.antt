@@ -4,13 +4,13 @@ use mathlib.Core.List.{IsPrefix}
 use Rattle.history_lock.specs.Seen.{Shows}
 use Rattle.index_snapshot.specs.Edges.{Edge}
 use Rattle.logbook.specs.Pages.{Book as LogBook}
-use Rattle.vault.specs.History.{Names, by_of, told_book}
-use Rattle.vault.specs.Items.{tells_in}
-use Rattle.vault.specs.Listing.{HasBook, IsListed}
-use Rattle.vault.specs.declared.item.Item.{Item}
-use Rattle.vault.specs.declared.noted.Noted.{Noted}
-use Rattle.vault.proofs.PublishLaws.{names_append, names_begun}
-use Rattle.vault.proofs.TellingLaws.{told_shown}
+use Rattle.vault_turns.specs.History.{Names, by_of, told_book}
+use Rattle.vault_turns.specs.Items.{tells_in}
+use Rattle.vault_turns.specs.Listing.{HasBook, IsListed}
+use Rattle.vault_turns.specs.declared.item.Item.{Item}
+use Rattle.vault_turns.specs.declared.noted.Noted.{Noted}
+use Rattle.vault_turns.proofs.PublishLaws.{names_append, names_begun}
+use Rattle.vault_turns.proofs.TellingLaws.{told_shown}
 
 pub prefix_on : {A : Type 0} (xs ys zs : List A) → IsPrefix xs ys → IsPrefix ys zs → IsPrefix xs zs
 prefix_on xs ys zs p q = (p.0 ++ q.0, sym (append_assoc xs p.0 q.0) ∙ (ap (λ l. l ++ q.0) p.1 ∙ q.1))

@@ -16,16 +16,16 @@ use Rattle.archive_shelf.specs.declared.receipt.Receipt.{Receipt}
 use Rattle.history_lock.specs.Known.{IsSamePass, Known, LockId}
 use Rattle.history_lock.specs.Seen.{Turn}
 use Rattle.vault.specs.Company.{Passing, told_at}
-use Rattle.vault.specs.History.{IsBegun, IsOpening, by_of, is_told, told_book, told_limits}
-use Rattle.vault.specs.Items.{shown_in}
+use Rattle.vault_turns.specs.History.{IsBegun, IsOpening, by_of, is_told, told_book, told_limits}
+use Rattle.vault_turns.specs.Items.{shown_in}
 use Rattle.vault.specs.Members.{AreMembers, AreNewMembers, IsMember, IsMemberAt, IsNewMember, VaultName, name_of}
 use Rattle.vault.specs.Orderly.{IsOrderly}
-use Rattle.vault.specs.Own.{count_faults, own_captures, own_faults}
+use Rattle.vault_turns.specs.Own.{count_faults, own_captures, own_faults}
 use Rattle.vault.specs.Passes.{IsNew}
-use Rattle.vault.specs.Turns.{AddsFaultAlone, BringsIt, GivesIt, StoresBy}
-use Rattle.vault.specs.declared.noted.Noted.{Noted}
-use Rattle.vault.specs.declared.noted.Sure.{Sure}
-use Rattle.vault.proofs.FaultLaws.{one_if}
+use Rattle.vault_turns.specs.Turns.{AddsFaultAlone, BringsIt, GivesIt, StoresBy}
+use Rattle.vault_turns.specs.declared.noted.Noted.{Noted}
+use Rattle.vault_turns.specs.declared.noted.Sure.{Sure}
+use Rattle.vault_turns.proofs.FaultLaws.{one_if}
 use Rattle.vault.proofs.OrderlyLaws.{fault_at_most, named_begun, new_are_orderly, reads_keep, stores_keep}
 use Rattle.vault.proofs.PassLaws.{all_of}
 use Rattle.vault.proofs.SharingLaws.{among_one}

@@ -20,10 +20,10 @@ use Rattle.index_snapshot.proofs.publisher.Publisher.TheSendSync as publisher
 use Rattle.index_snapshot.proofs.viewer.Viewer.TheSendSync as viewer
 use Rattle.index_snapshot.proofs.note.Note.TheSendSync as note
 use Rattle.vault.specs.contracts.at.At as at
-use Rattle.vault.specs.contracts.item.Item as item
-use Rattle.vault.specs.contracts.keeping.Keeping as keeping
+use Rattle.vault_turns.specs.contracts.item.Item as item
+use Rattle.vault_turns.specs.contracts.keeping.Keeping as keeping
 use Rattle.vault.specs.contracts.pass.VaultPass as seated
-use Rattle.vault.specs.contracts.published.Published as published
+use Rattle.vault_turns.specs.contracts.published.Published as published
 use Rattle.vault.specs.contracts.vault.Vault as vault
 use Rattle.vault.specs.declared.naming.Naming.{Ghosts as Names}
 

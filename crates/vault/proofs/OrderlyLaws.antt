@@ -13,13 +13,13 @@ use Rattle.archive_shelf.specs.declared.receipt.Receipt.{Receipt}
 use Rattle.archive_payloads.specs.Choosing.{is_look_fault}
 use Rattle.history_lock.specs.Known.{IsSamePass, Known}
 use Rattle.history_lock.specs.Seen.{All, IsOther, Shows, Turn}
-use Rattle.vault.specs.History.{IsBegun, IsOpening, after_kind, book_after, by_of, opened_book, told_book}
+use Rattle.vault_turns.specs.History.{IsBegun, IsOpening, after_kind, book_after, by_of, opened_book, told_book}
 use Rattle.vault.specs.Orderly.{AddsFaultAtMost, ArePlaced, HavePlaces, IsOrderly, IsPlaced, NamePasses, NamesPass, NewPassesAreOrderly, ReadsKeepOrder, StoresKeepOrder, given_book}
-use Rattle.vault.specs.Turns.{AddsFaultAlone, BeginsAtMost, CommitAnswers, IsStoring}
-use Rattle.vault.specs.declared.noted.Kind.{Kind}
-use Rattle.vault.specs.declared.noted.Kind.TheVariants.{Opened, Began, Stored, Failed}
-use Rattle.vault.specs.declared.noted.Noted.{Noted}
-use Rattle.vault.proofs.HistoryLaws.{after_append, told_append}
+use Rattle.vault_turns.specs.Turns.{AddsFaultAlone, BeginsAtMost, CommitAnswers, IsStoring}
+use Rattle.vault_turns.specs.declared.noted.Kind.{Kind}
+use Rattle.vault_turns.specs.declared.noted.Kind.TheVariants.{Opened, Began, Stored, Failed}
+use Rattle.vault_turns.specs.declared.noted.Noted.{Noted}
+use Rattle.vault_turns.proofs.HistoryLaws.{after_append, told_append}
 use Rattle.vault.proofs.OwnLaws.{not_among}
 
 -- ---- histories that go on

@@ -2,9 +2,9 @@
 use Rattle.std.proofs.Common.{◌≡◌, ◌≢◌, ℕ, Bool, true, false, List, [], ◌∷◌, ◌++◌, if◌then◌else◌, nat_eq, refl, ap, ◌∙◌, eqb-true}
 use Rattle.std.proofs.lemmas.List.{append-nil}
 use Rattle.history_lock.specs.Seen.{All, Apart, IsOther}
-use Rattle.vault.specs.History.{by_of}
-use Rattle.vault.specs.Own.{OwnEntriesStay, is_among, own_entries}
-use Rattle.vault.specs.declared.noted.Noted.{Noted}
+use Rattle.vault_turns.specs.History.{by_of}
+use Rattle.vault_turns.specs.Own.{OwnEntriesStay, is_among, own_entries}
+use Rattle.vault_turns.specs.declared.noted.Noted.{Noted}
 
 apart_by : (numbers : List ℕ) (n m : ℕ) (b : Bool) → nat_eq n m ≡ b → n ≢ m → is_among numbers n ≡ false
     → (if b then true else is_among numbers n) ≡ false

@@ -17,14 +17,14 @@ use Rattle.archive_shelf.specs.Storing.{add_to_last, as_stored}
 use Rattle.archive_shelf.proofs.StoringLaws.{captures_more, captures_stay}
 use Rattle.history_lock.specs.Known.{Known}
 use Rattle.history_lock.specs.Seen.{All, Apart, IsOther, Shows}
-use Rattle.vault.specs.History.{IsBegun, after_kind, book_after, by_of, opened_book, told_book}
+use Rattle.vault_turns.specs.History.{IsBegun, after_kind, book_after, by_of, opened_book, told_book}
 use Rattle.vault.specs.Orderly.{ArePlaced, HavePlaces, IsOrderly, IsPlaced, NamePasses, NamesPass, given_book}
-use Rattle.vault.specs.Own.{count_faults, fault_by, faults_since, is_among, number_by, own_behind, own_captures, own_entries, own_faults}
+use Rattle.vault_turns.specs.Own.{count_faults, fault_by, faults_since, is_among, number_by, own_behind, own_captures, own_entries, own_faults}
 use Rattle.vault.specs.Sharing.{HasItsOwn, HasPart, IsSharedOut, PartsAreShown, ShowingGoesOn, all_stored}
-use Rattle.vault.specs.declared.noted.Kind.{Kind}
-use Rattle.vault.specs.declared.noted.Kind.TheVariants.{Opened, Began, Stored, Failed}
-use Rattle.vault.specs.declared.noted.Noted.{Noted}
-use Rattle.vault.proofs.HistoryLaws.{told_grows}
+use Rattle.vault_turns.specs.declared.noted.Kind.{Kind}
+use Rattle.vault_turns.specs.declared.noted.Kind.TheVariants.{Opened, Began, Stored, Failed}
+use Rattle.vault_turns.specs.declared.noted.Noted.{Noted}
+use Rattle.vault_turns.proofs.HistoryLaws.{told_grows}
 use Rattle.vault.proofs.OrderlyLaws.{Keeps, all_append, keeps_shown, named_begun}
 use Rattle.vault.proofs.OwnLaws.{not_among, own_stay}
 

@@ -21,18 +21,18 @@ use Rattle.history_lock.specs.Known.{IsSamePass, Known}
 use Rattle.history_lock.specs.Seen.{All, Shows, Turn}
 use Rattle.index_snapshot.specs.Edges.{Edge}
 use Rattle.vault.specs.Company.{Passing, contents_at, told_at}
-use Rattle.vault.specs.History.{IsBegun, after_kind, book_after, by_of, given_faults, is_told, opened_book, sure_in, told_book, told_limits}
-use Rattle.vault.specs.Items.{shown_in}
-use Rattle.vault.specs.Own.{count_faults, fault_by, is_among, number_by, own_behind, own_captures, own_entries, own_faults}
-use Rattle.vault.specs.Turns.{AddsFaultAlone, BeginsAtMost, CommitAnswers, IsStoring}
-use Rattle.vault.specs.declared.item.Item.{Item}
-use Rattle.vault.specs.declared.noted.Kind.{Kind}
-use Rattle.vault.specs.declared.noted.Kind.TheVariants.{Opened, Began, Stored, Failed}
-use Rattle.vault.specs.declared.noted.Noted.{Noted}
-use Rattle.vault.proofs.FaultLaws.{count_append, none_stored, one_if}
-use Rattle.vault.proofs.HistoryLaws.{begun_append, given_stays, limits_append, sure_stays, told_grows, told_stays}
+use Rattle.vault_turns.specs.History.{IsBegun, after_kind, book_after, by_of, given_faults, is_told, opened_book, sure_in, told_book, told_limits}
+use Rattle.vault_turns.specs.Items.{shown_in}
+use Rattle.vault_turns.specs.Own.{count_faults, fault_by, is_among, number_by, own_behind, own_captures, own_entries, own_faults}
+use Rattle.vault_turns.specs.Turns.{AddsFaultAlone, BeginsAtMost, CommitAnswers, IsStoring}
+use Rattle.vault_turns.specs.declared.item.Item.{Item}
+use Rattle.vault_turns.specs.declared.noted.Kind.{Kind}
+use Rattle.vault_turns.specs.declared.noted.Kind.TheVariants.{Opened, Began, Stored, Failed}
+use Rattle.vault_turns.specs.declared.noted.Noted.{Noted}
+use Rattle.vault_turns.proofs.FaultLaws.{count_append, none_stored, one_if}
+use Rattle.vault_turns.proofs.HistoryLaws.{begun_append, given_stays, limits_append, sure_stays, told_grows, told_stays}
 use Rattle.vault.proofs.OwnLaws.{none_own, own_append}
-use Rattle.vault.proofs.PublishLaws.{fault_added}
+use Rattle.vault_turns.proofs.PublishLaws.{fault_added}
 use Rattle.vault.proofs.SharingLaws.{among_one, behind_append, none_behind}
 
 -- ---- how a history goes on

@@ -21,13 +21,13 @@ use Rattle.archive_shelf.specs.Queries.{ArePicked, IsFound}
 use Rattle.archive_index.specs.Shown.{numbered}
 use Rattle.index_snapshot.specs.Entries.{HasEntries, entries_in}
 use Rattle.index_snapshot.proofs.Bringing.{entries_joined}
-use Rattle.vault.specs.History.{is_told, told_book}
-use Rattle.vault.specs.Items.{AreItems, book_in, brings_of, last_book, last_from, shown_in, tells_in}
-use Rattle.vault.specs.Listing.{HasBook}
-use Rattle.vault.specs.declared.item.Item.{Item}
-use Rattle.vault.specs.declared.noted.Noted.{Noted}
-use Rattle.vault.proofs.GatherLaws.{number_here}
-use Rattle.vault.proofs.ItemLaws.{behind_front, behind_rest, from_on, grows_last, last_joined, same_shown, shown_entries, shown_sorted, shows_same}
+use Rattle.vault_turns.specs.History.{is_told, told_book}
+use Rattle.vault_turns.specs.Items.{AreItems, book_in, brings_of, last_book, last_from, shown_in, tells_in}
+use Rattle.vault_turns.specs.Listing.{HasBook}
+use Rattle.vault_turns.specs.declared.item.Item.{Item}
+use Rattle.vault_turns.specs.declared.noted.Noted.{Noted}
+use Rattle.vault_turns.proofs.GatherLaws.{number_here}
+use Rattle.vault_turns.proofs.ItemLaws.{behind_front, behind_rest, from_on, grows_last, last_joined, same_shown, shown_entries, shown_sorted, shows_same}
 use Rattle.vault.proofs.JoinLaws.{prefix_on}
 
 -- ---- one entry a number

@@ -1,5 +1,5 @@
--- A store in two turns.
-use Rattle.std.proofs.Common.{◌≡◌, ℕ, Bool, IsTrue, List, [], ◌++◌, Result, Ok, Err, refl, sym, ap, subst, ◌∙◌, inl, inr}
+-- A store, in one turn or two.
+use Rattle.std.proofs.Common.{◌≡◌, ◌⊎◌, ℕ, Bool, IsTrue, List, [], ◌++◌, Result, Ok, Err, refl, sym, ap, subst, ◌∙◌, inl, inr}
 use Rattle.std.proofs.lemmas.List.{append-nil}
 use Rattle.capture.specs.Captures.{HasPayload}
 use Rattle.capture.specs.Growth.{Grows}
@@ -14,10 +14,12 @@ use Rattle.archive_shelf.specs.declared.receipt.Receipt.{Receipt}
 use Rattle.archive_core.specs.Looking.{FoundServesLater, IsRightOf}
 use Rattle.history_lock.specs.Known.{IsSamePass, Known}
 use Rattle.history_lock.specs.Seen.{Shows, Turn}
-use Rattle.vault.specs.History.{IsBegun, by_of, told_book, told_in}
-use Rattle.vault.specs.Turns.{Commits, Compares, StoresBy}
-use Rattle.vault.specs.declared.noted.Noted.{Noted}
-use Rattle.vault.proofs.HistoryLaws.{begun_append, told_grows}
+use Rattle.vault_turns.specs.FirstTurns.{Begins, IsRefused}
+use Rattle.vault_turns.specs.History.{IsBegun, by_of, told_book, told_in}
+use Rattle.vault_turns.specs.Turns.{Commits, Compares, StoresBy}
+use Rattle.vault_turns.specs.declared.first_turn.FirstAnswer.TheVariants.{Whole}
+use Rattle.vault_turns.specs.declared.noted.Noted.{Noted}
+use Rattle.vault_turns.proofs.HistoryLaws.{begun_append, told_grows}
 
 module _ (tells : Bool) (taken : Taken) (was : Known Noted) where
   pub no_memory : StoresBy tells taken was was (Err stores.Memory)
@@ -78,3 +80,56 @@ module _ (tells : Bool) (taken : Taken) (was middle is : Known Noted) (same : Is
     looks = looks;
     turn = subst (λ (p : Known Noted). Turn by_of p is.seen (λ found added. Commits tells taken found added result)) next_pass turn;
   }))
+
+-- ---- a store that its first turn answered
+
+module _ (tells : Bool) (taken : Taken) (payload : List ℕ) (was is : Known Noted) (result : Result Receipt StoreFault)
+    (has : HasPayload taken.cut taken.method taken.head taken.wire payload)
+    (turn : Turn by_of was is.seen (λ found added. Begins tells taken payload found added (Whole result))) where
+  -- the turn, of which this holds
+  turn_by : (does : List Noted → List Noted → Type 0) → does turn.found turn.adds.added → Turn by_of was is.seen does
+  turn_by does done = record {
+    found = turn.found;
+    shows = turn.shows;
+    adds = record {
+      added = turn.adds.added;
+      is_before_and_added = turn.adds.is_before_and_added;
+      of_pass = turn.adds.of_pass;
+      done = done;
+    };
+  }
+
+  refused_so : IsRefused tells payload turn.found turn.adds.added result → StoresBy tells taken was is result
+  refused_so refused =
+      subst (λ (r : Result Receipt StoreFault). StoresBy tells taken was is r) (sym refused.1)
+      (refused_early tells taken was is refused.0 payload has
+      (turn_by (λ found added. Compares tells payload found added (Err refused.0)) refused.2))
+
+  -- it found all, added nothing, and went on as a second turn that found the same
+  committed_so : Commits tells taken turn.found turn.adds.added result → StoresBy tells taken was is result
+  committed_so commits = inr (inr (record {
+    middle = turn.found;
+    looks = record {
+      found = turn.found;
+      shows = turn.shows;
+      adds = record { added = []; is_before_and_added = sym (append-nil turn.found); of_pass = tt; done = refl };
+    };
+    turn = record {
+      found = turn.found;
+      shows = record { more = []; is_seen_and_more = sym (append-nil turn.found); of_others = tt };
+      adds = record {
+        added = turn.adds.added;
+        is_before_and_added = turn.adds.is_before_and_added;
+        of_pass = turn.adds.of_pass;
+        done = commits;
+      };
+    };
+  }))
+
+  by_cases : IsRefused tells payload turn.found turn.adds.added result ⊎ Commits tells taken turn.found turn.adds.added result
+      → StoresBy tells taken was is result
+  by_cases (inl refused) = refused_so refused
+  by_cases (inr commits) = committed_so commits
+
+  pub answered_at_once : StoresBy tells taken was is result
+  answered_at_once = by_cases turn.adds.done

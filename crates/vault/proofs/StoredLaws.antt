@@ -19,14 +19,14 @@ use Rattle.archive_payloads.specs.Choosing.{is_look_fault}
 use Rattle.history_lock.specs.Known.{IsSamePass, Known}
 use Rattle.history_lock.specs.Seen.{Turn}
 use Rattle.vault.specs.Company.{Passing, contents_at, told_at}
-use Rattle.vault.specs.History.{IsBegun, by_of, is_told, told_book, told_in, told_limits}
-use Rattle.vault.specs.Items.{shown_in}
-use Rattle.vault.specs.Own.{own_captures}
-use Rattle.vault.specs.Turns.{CommitAnswers, StoresBy}
-use Rattle.vault.specs.declared.noted.Noted.{Noted}
-use Rattle.vault.proofs.FaultLaws.{one_if}
-use Rattle.vault.proofs.HistoryLaws.{turn_begun}
-use Rattle.vault.proofs.PublishLaws.{nothing_added}
+use Rattle.vault_turns.specs.History.{IsBegun, by_of, is_told, told_book, told_in, told_limits}
+use Rattle.vault_turns.specs.Items.{shown_in}
+use Rattle.vault_turns.specs.Own.{own_captures}
+use Rattle.vault_turns.specs.Turns.{CommitAnswers, StoresBy}
+use Rattle.vault_turns.specs.declared.noted.Noted.{Noted}
+use Rattle.vault_turns.proofs.FaultLaws.{one_if}
+use Rattle.vault_turns.proofs.HistoryLaws.{turn_begun}
+use Rattle.vault_turns.proofs.PublishLaws.{nothing_added}
 use Rattle.vault.proofs.ShelfLaws.{Leaves, among_self, commit_leaves, counts, found_begun, found_leaves, leaves_both, leaves_itself, number_if, read_book, read_turn, shown_same, stays}
 
 -- ---- what was found, and what was added

@@ -3,8 +3,8 @@ use Rattle.std.specs.Prelude.{ℕ, List, bytes_eq, nat_eq}
 use Rattle.std.specs.List.{starts_with}
 use Rattle.cdxj_index.specs.Facts.{Facts}
 use Rattle.archive_shelf.specs.Queries.{ArePicked}
-use Rattle.vault.specs.Items.{shown_in}
-use Rattle.vault.specs.declared.item.Item.{Item}
+use Rattle.vault_turns.specs.Items.{shown_in}
+use Rattle.vault_turns.specs.declared.item.Item.{Item}
 
 -- the entries of a key
 pub record AreOfKey (key : List ℕ) (items : List Item) (found : List Facts) : Type 0 where

@@ -1,16 +1,6 @@
-pub mod Items
-pub mod Taking
-pub mod History
-pub mod Turns
-pub mod FirstTurns
-pub mod Noting
-pub mod Calm
-pub mod Guarded
 pub mod Passes
-pub mod Own
 pub mod Orderly
 pub mod Sharing
 pub mod Company
 pub mod Members
-pub mod Listing
 pub mod Finding

@@ -7,11 +7,11 @@ use Rattle.warc_text.specs.Sound.{IsSound}
 use Rattle.archive_shelf.specs.Storing.{empty_book}
 use Rattle.history_lock.specs.Known.{Known, LockId}
 use Rattle.vault.specs.Company.{Passing}
-use Rattle.vault.specs.History.{IsOpening, given_faults, is_told, not_sure, sure_in, told_book, told_limits}
-use Rattle.vault.specs.Items.{shown_in}
+use Rattle.vault_turns.specs.History.{IsOpening, given_faults, is_told, not_sure, sure_in, told_book, told_limits}
+use Rattle.vault_turns.specs.Items.{shown_in}
 use Rattle.vault.specs.Orderly.{IsOrderly, given_book}
-use Rattle.vault.specs.declared.noted.Noted.{Noted}
-use Rattle.vault.specs.declared.noted.Sure.{Sure}
+use Rattle.vault_turns.specs.declared.noted.Noted.{Noted}
+use Rattle.vault_turns.specs.declared.noted.Sure.{Sure}
 
 -- What a vault is called: its lock, how many passes it was made with, and the archive that was given to it: its book, its limits, whether
 -- its disk tells what it holds, how many faults that had counted, and what was sure of a crash then.

@@ -8,13 +8,13 @@ use Rattle.archive_shelf.specs.declared.fault.StoreFault.{StoreFault}
 use Rattle.archive_shelf.specs.declared.receipt.Receipt.{Receipt}
 use Rattle.history_lock.specs.Known.{IsSamePass, Known, LockId}
 use Rattle.history_lock.specs.Seen.{All, Turn}
-use Rattle.vault.specs.History.{after_kind, by_of, opened_book}
-use Rattle.vault.specs.Own.{is_among}
+use Rattle.vault_turns.specs.History.{after_kind, by_of, opened_book}
+use Rattle.vault_turns.specs.Own.{is_among}
 use Rattle.vault.specs.Passes.{IsMade}
-use Rattle.vault.specs.Turns.{AddsFaultAlone, StoresBy}
-use Rattle.vault.specs.declared.noted.Kind.{Kind}
-use Rattle.vault.specs.declared.noted.Kind.TheVariants.{Opened, Began, Stored, Failed}
-use Rattle.vault.specs.declared.noted.Noted.{Noted}
+use Rattle.vault_turns.specs.Turns.{AddsFaultAlone, StoresBy}
+use Rattle.vault_turns.specs.declared.noted.Kind.{Kind}
+use Rattle.vault_turns.specs.declared.noted.Kind.TheVariants.{Opened, Began, Stored, Failed}
+use Rattle.vault_turns.specs.declared.noted.Noted.{Noted}
 
 -- the book that the archive had when it was given
 abbrev pub given_book : List Noted → Book

@@ -5,13 +5,13 @@ use Rattle.capture.specs.declared.limits.Limits.{Limits}
 use Rattle.cdxj_index.specs.OfBook.{AreEntries}
 use Rattle.history_lock.specs.Known.{Known, LockId, newcomer}
 use Rattle.history_lock.specs.Seen.{Shows}
-use Rattle.vault.specs.History.{IsBegun, IsOpening, by_of, given_faults, is_told, sure_in, told_book, told_limits}
-use Rattle.vault.specs.Calm.{Crash}
+use Rattle.vault_turns.specs.History.{IsBegun, IsOpening, by_of, given_faults, is_told, sure_in, told_book, told_limits}
+use Rattle.vault_turns.specs.Calm.{Crash}
 use Rattle.vault.specs.Company.{Passing}
-use Rattle.vault.specs.Items.{shown_in}
-use Rattle.vault.specs.Own.{AreCounted, faults_since}
-use Rattle.vault.specs.declared.noted.Noted.{Noted}
-use Rattle.vault.specs.declared.noted.Sure.{Sure}
+use Rattle.vault_turns.specs.Items.{shown_in}
+use Rattle.vault_turns.specs.Own.{AreCounted, faults_since}
+use Rattle.vault_turns.specs.declared.noted.Noted.{Noted}
+use Rattle.vault_turns.specs.declared.noted.Sure.{Sure}
 
 -- the pass with this number as it is made: it has seen that the archive was given, with this book and these limits
 pub record IsMade (lock : LockId) (passes number : ℕ) (book : Book) (limits : Limits) (pass : Known Noted) : Type 0 where

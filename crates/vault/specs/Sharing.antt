@@ -9,13 +9,13 @@ use Rattle.capture.specs.declared.book.Book.{Book}
 use Rattle.capture.specs.declared.limits.Limits.{Limits}
 use Rattle.history_lock.specs.Known.{Known}
 use Rattle.history_lock.specs.Seen.{Shows}
-use Rattle.vault.specs.Calm.{Crash}
+use Rattle.vault_turns.specs.Calm.{Crash}
 use Rattle.vault.specs.Company.{Passing}
-use Rattle.vault.specs.History.{by_of, told_book}
+use Rattle.vault_turns.specs.History.{by_of, told_book}
 use Rattle.vault.specs.Members.{VaultName}
 use Rattle.vault.specs.Orderly.{IsOrderly, NamePasses}
-use Rattle.vault.specs.Own.{faults_since, own_captures, own_entries, own_faults}
-use Rattle.vault.specs.declared.noted.Noted.{Noted}
+use Rattle.vault_turns.specs.Own.{faults_since, own_captures, own_entries, own_faults}
+use Rattle.vault_turns.specs.declared.noted.Noted.{Noted}
 
 -- The pass is orderly, it has this number alone, out of so many, and the history shows what it has seen.
 pub record HasPart (book : Book) (passes number : ℕ) (history : List Noted) (pass : Known Noted) : Type 0 where

@@ -5,7 +5,7 @@ ghost use Rattle.archive_shelf.specs.Queries.{IsFound};
 ghost use Rattle.archive_shelf.specs.Told.{KnowsBook};
 ghost use Rattle.vault.specs.Company.{contents_at};
 ghost use Rattle.vault.specs.Finding.{AreOfKey, AreStarting};
-ghost use Rattle.vault.specs.Items.{shown_in};
+ghost use Rattle.vault_turns.specs.Items.{shown_in};
 ghost use Rattle.vault.specs.Members.{IsMember};
 
 use crate::finding::{find_key, find_nearest, find_starting};

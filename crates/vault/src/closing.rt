@@ -2,10 +2,10 @@
 ghost use Rattle.std.specs.Prelude.{◌≡◌, ◌<◌, List, map, vec_len};
 ghost use Rattle.std.specs.List.{All};
 ghost use Rattle.warc_journal.specs.Journals.{disk_of};
-ghost use Rattle.vault.specs.Calm.{crash_left};
+ghost use Rattle.vault_turns.specs.Calm.{crash_left};
 ghost use Rattle.vault.specs.Members.{AreMembers, IsMember};
 ghost use Rattle.vault.specs.Sharing.{IsLeftByAll, IsShownIn};
-ghost use Rattle.vault.specs.declared.noted.Noted.{Noted};
+ghost use Rattle.vault_turns.specs.declared.noted.Noted.{Noted};
 
 use crate::naming::Naming;
 use crate::pass::VaultPass;

@@ -4,11 +4,9 @@ ghost use Rattle.std.specs.Prelude.{◌≡◌, ◌<◌, ◌++◌, ◌∷◌, [],
 ghost use Rattle.cdxj_index.specs.Queries.{IsIndex, of_key, starting_with};
 ghost use Rattle.archive_shelf.specs.Queries.{IsFound};
 ghost use Rattle.vault.specs.Finding.{AreOfKey, AreStarting};
-ghost use Rattle.vault.specs.Items.{shown_in};
-ghost use Rattle.vault.specs.Listing.{HasSeen};
+ghost use Rattle.vault_turns.specs.Items.{shown_in};
+ghost use Rattle.vault_turns.specs.Listing.{HasSeen};
 
-use crate::item::{Books, Item};
-use crate::listed::Listed;
 use capture::{Memory, growth_keeps_captures};
 use cdxj_index::{Entry, Index, SharedEntry, Steps};
 use core::mem::replace_with;
@@ -17,6 +15,7 @@ use std::alloc::Global;
 use std::marker::Brand;
 use std::sync::ledger::{Blank, Ledger};
 use surt_key::Key;
+use vault_turns::{Books, Item, Listed};
 
 /// The list as it is shown, if it begins with all that the pass knows of it; else the viewer, which has seen it.
 fn enter(

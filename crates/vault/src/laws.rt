@@ -1,6 +1,6 @@
 //! What holds of a vault's histories.
 ghost use Rattle.vault.specs.Orderly.{NewPassesAreOrderly, ReadsKeepOrder, StoresKeepOrder};
-ghost use Rattle.vault.specs.Own.{OwnEntriesStay};
+ghost use Rattle.vault_turns.specs.Own.{OwnEntriesStay};
 ghost use Rattle.vault.specs.Sharing.{HistoriesAreSharedOut, PartsAreShown, ShowingGoesOn};
 
 /// What a pass did itself stands in each later history once, in order, and nothing else does under its numbers: a later history shows what

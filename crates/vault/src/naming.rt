@@ -1,10 +1,9 @@
 //! Vaults by their names.
 ghost use Rattle.std.specs.Prelude.{◌≡◌, ◌<◌, ◌≤◌, IfErr, IfOk, IsTrue};
 ghost use Rattle.warc_journal.specs.Journals.{disk_of};
-ghost use Rattle.vault.specs.Calm.{HasRightCheckpoints, IsCalm, StillStands};
+ghost use Rattle.vault_turns.specs.Calm.{HasRightCheckpoints, IsCalm, StillStands};
 ghost use Rattle.vault.specs.Members.{AreNewMembers};
 
-use crate::noted::Sure;
 use crate::pass::VaultPass;
 use crate::vault::Vault;
 use archive_core::Archive;
@@ -13,6 +12,7 @@ use shown::Shown;
 use std::alloc::Global;
 use std::marker::{Brand, Model};
 use std::sync::Wait;
+use vault_turns::Sure;
 
 /// Which vault it is. Each call of a program picks it.
 pub trait Naming {

@@ -2,14 +2,12 @@
 ghost use Rattle.std.specs.Prelude.{◌≡◌, ◌+◌, ◌≤◌, ◌++◌, [], ◌∷◌, map, vec_len};
 ghost use Rattle.std.specs.List.{All};
 ghost use Rattle.std.specs.Vec.{vec_capacity};
-ghost use Rattle.vault.specs.Listing.{IsListed};
+ghost use Rattle.vault_turns.specs.Listing.{IsListed};
 
-use crate::item::{Books, Item};
-use crate::listed::Listed;
-use crate::noted::Noted;
 use history_lock::Pass;
 use index_snapshot::Viewer;
 use std::marker::Model;
+use vault_turns::{Books, Item, Listed, Noted};
 
 /// The right to take turns at one vault. It knows the history that it saw last, and the list of books that it has seen by date, and
 /// nothing of the disk.
@@ -23,8 +21,8 @@ pub struct VaultPass {
 
 impl Model for VaultPass {
     ghost use Rattle.vault.specs.Company.{Passing};
-    ghost use Rattle.vault.specs.History.{Names};
-    ghost use Rattle.vault.specs.Listing.{IsListed};
+    ghost use Rattle.vault_turns.specs.History.{Names};
+    ghost use Rattle.vault_turns.specs.Listing.{IsListed};
 
     ghost Value = { Passing };
 

@@ -8,26 +8,16 @@ ghost use Rattle.archive_shelf.specs.Pieces.{GivesPiece};
 ghost use Rattle.archive_core.specs.Looking.{IsDigestOf, IsRightOf};
 ghost use Rattle.history_lock.specs.Known.{IsSamePass};
 ghost use Rattle.history_lock.specs.Seen.{Shows, Turn};
-ghost use Rattle.vault.specs.Calm.{HasRightCheckpoints, IsCalm, StillStands, crash_left};
-ghost use Rattle.vault.specs.History.{IsBegun, KeepsNames, Names, by_of, is_told, told_in};
+ghost use Rattle.vault_turns.specs.Calm.{HasRightCheckpoints, IsCalm, StillStands, crash_left};
+ghost use Rattle.vault_turns.specs.History.{IsBegun, KeepsNames, Names, by_of, is_told, told_in};
 ghost use Rattle.vault.specs.Company.{contents_at};
-ghost use Rattle.vault.specs.Items.{brings_of, shown_in};
+ghost use Rattle.vault_turns.specs.Items.{brings_of, shown_in};
 ghost use Rattle.index_snapshot.specs.Entries.{entries_in};
-ghost use Rattle.vault.specs.Listing.{IsListed};
+ghost use Rattle.vault_turns.specs.Listing.{IsListed};
 ghost use Rattle.vault.specs.Passes.{IsLeft, IsNew};
-ghost use Rattle.vault.specs.Turns.{BringsIt, Commits, GivesIt, StoresBy};
+ghost use Rattle.vault_turns.specs.Turns.{BringsIt, Commits, GivesIt, StoresBy};
 
-use crate::bring::{Bring, hold_back};
-use crate::commit::Commit;
-use crate::first_turn::{FirstAnswer, FirstTurn};
-use crate::flush::Flush;
-use crate::item::Item;
-use crate::listed::{Listed, longer};
-use crate::noted::{Noted, Sure};
 use crate::pass::{VaultPass, seat_all};
-use crate::piece::Piece;
-use crate::published::Published;
-use crate::turning::{Act, Telling};
 use archive_core::{Archive, compared_payloads_serve_later, payload_of_taken};
 use archive_shelf::{BringFault, Looked, Receipt, StoreFault};
 use capture::{Brought, Bytes, Digest, Memory, Taken, growth_keeps_captures};
@@ -39,6 +29,10 @@ use shown::Shown;
 use std::alloc::Global;
 use std::marker::Model;
 use std::sync::Wait;
+use vault_turns::{
+    Act, Bring, Commit, FirstAnswer, FirstTurn, Flush, Item, Listed, Noted, Piece, Published, Sure,
+    Telling, hold_back, longer,
+};
 
 /// An archive that several passes share. It isn't `Drop`: end it by `close`. A clause sees which lock it is.
 pub struct Vault<D: Disk> {

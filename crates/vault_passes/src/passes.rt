@@ -12,7 +12,8 @@ use disk_model::Disk;
 use shown::Shown;
 use std::alloc::Global;
 use std::sync::Wait;
-use vault::{At, Naming, Sure, Unnamed, Vault, VaultPass};
+use vault::{At, Naming, Unnamed, Vault, VaultPass};
+use vault_turns::Sure;
 
 /// It isn't said what a crash may leave of the archive.
 fn not_said<R>(rt: &R) -> Shown<Sure>

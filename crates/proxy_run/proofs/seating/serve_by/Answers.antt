@@ -6,7 +6,7 @@ use Rattle.std.proofs.Common.{◌≡◌, ◌≤◌, ◌∙◌, false, List, drop
 use Rattle.std.specs.List.{All}
 use Rattle.vault.specs.Company.{Passing, told_at}
 use Rattle.vault.specs.Members.{IsMember}
-use Rattle.vault.specs.Own.{own_captures}
+use Rattle.vault_turns.specs.Own.{own_captures}
 use Rattle.vault.proofs.Moving.{at_send}
 use Rattle.crew.proofs.CrewSums.{serves_none}
 use Rattle.proxy_run.proofs.SeatLaws.{same_numbers}

@@ -10,8 +10,8 @@ use Rattle.proxy_run.specs.Serves.{Serves}
 use Rattle.command.specs.Words.{asked_of}
 use Rattle.command.specs.declared.status.Status.TheVariants.{Memory}
 use Rattle.proxy_run.specs.steps.Seating.{IsNameOf}
-use Rattle.vault.specs.Calm.{StillStands}
-use Rattle.vault.specs.declared.noted.Sure.{Sure}
+use Rattle.vault_turns.specs.Calm.{StillStands}
+use Rattle.vault_turns.specs.declared.noted.Sure.{Sure}
 use Rattle.proxy_run.proofs.server.serve_many.Goals as goal
 
 pub open_and_settle-requires-clause-uuid : goal.open_and_settle-requires-clause-uuid

@@ -6,7 +6,7 @@ use Rattle.command.specs.Objects.{kinds_of, objects_of}
 use Rattle.command.specs.Printing.{printed_as}
 use Rattle.proxy_run.specs.Serves.{Serves, TellsCount}
 use Rattle.proxy_run.specs.steps.Seating.{IsNameOf}
-use Rattle.vault.specs.Calm.{StillStands}
+use Rattle.vault_turns.specs.Calm.{StillStands}
 use Rattle.proxy_run.proofs.VaultSeats.{serves_over}
 use Rattle.proxy_run.proofs.server.serve_named.Goals as goal
 use Rattle.warc_journal.specs.Journals.{disk_of}

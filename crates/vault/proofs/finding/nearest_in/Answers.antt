@@ -3,8 +3,8 @@ use Rattle.std.specs.Prelude.{Option}
 use Rattle.cdxj_index.specs.Facts.{Facts}
 use Rattle.archive_shelf.specs.Queries.{IsFound}
 use Rattle.index_snapshot.specs.Edges.{Edge}
-use Rattle.vault.specs.Items.{shown_in}
-use Rattle.vault.specs.declared.item.Item.{Item}
+use Rattle.vault_turns.specs.Items.{shown_in}
+use Rattle.vault_turns.specs.declared.item.Item.{Item}
 use Rattle.vault.proofs.ShowingLaws.{found_shown, if_ok}
 use Rattle.vault.proofs.finding.nearest_in.Goals as goal
 

@@ -3,8 +3,8 @@ use Rattle.std.specs.Prelude.{nat_eq}
 use Rattle.std.specs.List.{starts_with}
 use Rattle.index_snapshot.specs.Edges.{Edge}
 use Rattle.archive_shelf.specs.Queries.{ArePicked}
-use Rattle.vault.specs.Items.{shown_in}
-use Rattle.vault.specs.declared.item.Item.{Item}
+use Rattle.vault_turns.specs.Items.{shown_in}
+use Rattle.vault_turns.specs.declared.item.Item.{Item}
 use Rattle.vault.proofs.ShowingLaws.{if_ok, picked_shown}
 use Rattle.vault.proofs.finding.starting_in.Goals as goal
 

@@ -2,8 +2,8 @@ use Rattle.std.proofs.Common.{List, [], ◌∷◌, ◌++◌, ap, sym, ◌∙◌,
 use Rattle.std.specs.Vec.Iter.{into_iter_items}
 use Rattle.history_lock.specs.Known.{Known}
 use Rattle.vault.specs.Company.{Passing}
-use Rattle.vault.specs.Listing.{IsListed}
-use Rattle.vault.specs.declared.noted.Noted.{Noted}
+use Rattle.vault_turns.specs.Listing.{IsListed}
+use Rattle.vault_turns.specs.declared.noted.Noted.{Noted}
 use Rattle.vault.proofs.SeatLaws.{first_of, rest_of}
 use Rattle.vault.proofs.pass.seat_all.Goals as goal
 

@@ -2,7 +2,7 @@ use Rattle.std.proofs.Common.{◌≡◌, ◌+◌, ◌≤◌, ◌++◌, map, vec_
 use Rattle.std.specs.Vec.{vec_capacity}
 use Rattle.std.specs.Vec.Iter.{into_iter_items, into_iter_len}
 use Rattle.std.specs.List.{All}
-use Rattle.vault.specs.Listing.{IsListed}
+use Rattle.vault_turns.specs.Listing.{IsListed}
 use Rattle.vault.proofs.pass.seat_all.Given as goal
 
 abbrev pub invariant-seating : goal.invariant-seating

@@ -1,5 +1,5 @@
 -- Nothing is.
-use Rattle.vault.specs.History.{not_sure}
+use Rattle.vault_turns.specs.History.{not_sure}
 use Rattle.vault_passes.proofs.passes.not_said.Given as goal
 
 abbrev pub ghost-told_by : goal.ghost-told_by

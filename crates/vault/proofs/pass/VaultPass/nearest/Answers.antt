@@ -1,5 +1,5 @@
 use Rattle.vault.proofs.AtLaws.{knows_seen}
-use Rattle.vault.proofs.TellingLaws.{on_ok}
+use Rattle.vault_turns.proofs.TellingLaws.{on_ok}
 use Rattle.vault.proofs.pass.VaultPass.nearest.Goals as goal
 
 pub returns-clause-knows : goal.returns-clause-knows

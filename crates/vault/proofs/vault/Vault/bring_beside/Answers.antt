@@ -4,9 +4,9 @@ use Rattle.std.specs.Prelude.{Result}
 use Rattle.archive_shelf.specs.declared.fault.BringFault.{BringFault}
 use Rattle.capture.specs.declared.captured.Brought.{Brought}
 use Rattle.history_lock.specs.Seen.{Turn}
-use Rattle.vault.specs.History.{by_of, is_told}
-use Rattle.vault.specs.Items.{shown_in}
-use Rattle.vault.specs.Turns.{BringsIt}
+use Rattle.vault_turns.specs.History.{by_of, is_told}
+use Rattle.vault_turns.specs.Items.{shown_in}
+use Rattle.vault_turns.specs.Turns.{BringsIt}
 use Rattle.vault.proofs.BringLaws.{names_one, prefix_if, turn_brings, turn_held}
 use Rattle.vault.proofs.vault.Vault.bring_beside.Goals as goal
 

@@ -2,8 +2,8 @@
 use Rattle.std.proofs.Common.{subst}
 use Rattle.history_lock.specs.Known.{Known}
 use Rattle.history_lock.specs.Seen.{Shows}
-use Rattle.vault.specs.History.{by_of}
-use Rattle.vault.specs.declared.noted.Noted.{Noted}
+use Rattle.vault_turns.specs.History.{by_of}
+use Rattle.vault_turns.specs.declared.noted.Noted.{Noted}
 use Rattle.vault.proofs.vault.Vault.close.Goals as goal
 
 pub returns : goal.returns

@@ -1,6 +1,6 @@
 use Rattle.std.proofs.Common.{arith}
 use Rattle.warc_journal.specs.Journals.{disk_of}
-use Rattle.vault.specs.Calm.{crash_left}
+use Rattle.vault_turns.specs.Calm.{crash_left}
 use Rattle.vault.proofs.ClosingLaws.{all_members, closed_by_all}
 use Rattle.vault.proofs.vault.Vault.close_all.Goals as goal
 

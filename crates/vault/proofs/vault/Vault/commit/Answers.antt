@@ -1,7 +1,7 @@
 use Rattle.std.proofs.Common.{Bool, sym, subst}
 use Rattle.archive_core.specs.Looking.{IsRightOf}
-use Rattle.vault.specs.History.{told_in}
-use Rattle.vault.proofs.TellingLaws.{told_shown}
+use Rattle.vault_turns.specs.History.{told_in}
+use Rattle.vault_turns.proofs.TellingLaws.{told_shown}
 use Rattle.vault.proofs.vault.Vault.commit.Goals as goal
 
 pub take-requires-clause-ready : goal.take-requires-clause-ready

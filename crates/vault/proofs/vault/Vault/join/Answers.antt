@@ -1,6 +1,6 @@
 use Rattle.std.proofs.Common.{subst, sym}
 use Rattle.logbook.specs.Pages.{Book as LogBook}
-use Rattle.vault.specs.History.{Names}
+use Rattle.vault_turns.specs.History.{Names}
 use Rattle.vault.proofs.JoinLaws.{joined_listed, shown_names}
 use Rattle.vault.proofs.vault.Vault.join.Goals as goal
 

@@ -3,7 +3,7 @@ use Rattle.std.specs.Vec.Iter.{into_iter_items, into_iter_len}
 use Rattle.std.specs.List.{All}
 use Rattle.vault.specs.Members.{IsMember}
 use Rattle.vault.specs.Sharing.{IsShownIn}
-use Rattle.vault.specs.declared.noted.Noted.{Noted}
+use Rattle.vault_turns.specs.declared.noted.Noted.{Noted}
 use Rattle.vault.proofs.vault.Vault.join_all.Given as goal
 
 -- however what is left is shown, all are shown so

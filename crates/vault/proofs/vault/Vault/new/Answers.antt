@@ -1,7 +1,7 @@
 use Rattle.std.proofs.Common.{ap, ◌+◌, ◌∙◌}
 use Rattle.std.specs.Prelude.{slice_get}
 use Rattle.warc_journal.specs.Journals.{disk_of}
-use Rattle.vault.specs.Guarded.{Publication}
+use Rattle.vault_turns.specs.Guarded.{Publication}
 use Rattle.vault.proofs.PassLaws.{all_of}
 use Rattle.vault.proofs.SeatLaws.{listed_of, new_passes}
 use Rattle.vault.proofs.vault.Vault.new.Goals as goal

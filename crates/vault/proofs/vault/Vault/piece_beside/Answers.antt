@@ -3,9 +3,9 @@ use Rattle.std.proofs.Common.{sym, subst}
 use Rattle.std.specs.Prelude.{List, Result, ℕ}
 use Rattle.archive_shelf.specs.declared.fault.BringFault.{BringFault}
 use Rattle.history_lock.specs.Seen.{Turn}
-use Rattle.vault.specs.History.{by_of, is_told}
-use Rattle.vault.specs.Items.{shown_in}
-use Rattle.vault.specs.Turns.{GivesIt}
+use Rattle.vault_turns.specs.History.{by_of, is_told}
+use Rattle.vault_turns.specs.Items.{shown_in}
+use Rattle.vault_turns.specs.Turns.{GivesIt}
 use Rattle.vault.proofs.BringLaws.{names_one, piece_held, prefix_if, turn_gives}
 use Rattle.vault.proofs.vault.Vault.piece_beside.Goals as goal
 

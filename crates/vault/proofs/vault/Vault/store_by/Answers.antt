@@ -4,13 +4,12 @@ use Rattle.sha1.specs.Sha1.{sha1}
 use Rattle.capture.specs.Captures.{HasPayload}
 use Rattle.archive_core.specs.Looking.{IsDigestOf, IsRightOf}
 use Rattle.history_lock.specs.Seen.{Turn}
-use Rattle.vault.specs.FirstTurns.{Begins}
-use Rattle.vault.specs.History.{by_of, is_told, told_in}
-use Rattle.vault.specs.Turns.{Commits}
-use Rattle.vault.specs.declared.first_turn.FirstAnswer.{FirstAnswer}
-use Rattle.vault.proofs.FirstLaws.{answered_at_once}
-use Rattle.vault.proofs.PublishLaws.{names_begun}
-use Rattle.vault.proofs.StoreLaws.{committed_later, looks_alone, serves}
+use Rattle.vault_turns.specs.FirstTurns.{Begins}
+use Rattle.vault_turns.specs.History.{by_of, is_told, told_in}
+use Rattle.vault_turns.specs.Turns.{Commits}
+use Rattle.vault_turns.specs.declared.first_turn.FirstAnswer.{FirstAnswer}
+use Rattle.vault_turns.proofs.PublishLaws.{names_begun}
+use Rattle.vault.proofs.StoreLaws.{answered_at_once, committed_later, looks_alone, serves}
 use Rattle.vault.proofs.vault.Vault.store_by.Goals as goal
 
 pub take-requires-clause-begun : goal.take-requires-clause-begun

@@ -1,6 +1,6 @@
 use Rattle.index_snapshot.specs.Entries.{entries_in}
-use Rattle.vault.specs.Items.{brings_of}
-use Rattle.vault.proofs.TellingLaws.{turn_keeps, turn_listed, turn_names, turn_told}
+use Rattle.vault_turns.specs.Items.{brings_of}
+use Rattle.vault_turns.proofs.TellingLaws.{turn_keeps, turn_listed, turn_names, turn_told}
 use Rattle.vault.proofs.vault.Vault.take.Goals as goal
 
 pub returns-clause-turn : goal.returns-clause-turn

@@ -1,0 +1,12 @@
+pub mod AnswerLaws
+pub mod HistoryLaws
+pub mod FaultLaws
+pub mod NotingLaws
+pub mod CalmLaws
+pub mod CommitLaws
+pub mod ReadLaws
+pub mod FirstLaws
+pub mod TellingLaws
+pub mod GatherLaws
+pub mod ItemLaws
+pub mod PublishLaws

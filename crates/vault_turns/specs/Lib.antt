@@ -1,0 +1,10 @@
+pub mod Items
+pub mod Taking
+pub mod History
+pub mod Turns
+pub mod FirstTurns
+pub mod Noting
+pub mod Calm
+pub mod Guarded
+pub mod Own
+pub mod Listing
