@@ -1,5 +1,5 @@
 -- The committing turn of a store.
-use Rattle.std.proofs.Common.{◌≡◌, ◌≢◌, ◌⊎◌, ℕ, suc, ◌+◌, ◌<◌, ◌≤◌, Bool, true, false, IsTrue, List, [], ◌∷◌, ◌++◌, length, Option, Result, Ok, Err, refl, sym, ap, subst, ◌∙◌, inl, inr, arith}
+use Rattle.std.proofs.Common.{◌≡◌, ◌≢◌, ◌⊎◌, ℕ, suc, ◌+◌, ◌<◌, ◌≤◌, Bool, true, false, not, IsTrue, List, [], ◌∷◌, ◌++◌, length, Option, Result, Ok, Err, refl, sym, ap, subst, ◌∙◌, inl, inr, arith}
 use Rattle.std.specs.Prelude.{MatchBool}
 use Rattle.std.proofs.lemmas.List.{length-append}
 use Rattle.capture.specs.Captures.{captures}
@@ -33,6 +33,12 @@ use Rattle.vault_turns.proofs.FaultLaws.{store_counted}
 use Rattle.vault_turns.proofs.HistoryLaws.{as_told, begun_append, limits_append, told_append, told_stays}
 
 -- ---- whether a volume was begun
+
+-- what a comparison of two counts told
+pub differs_by : (b : Bool) (m n now before : ℕ) → (b ≡ true → m ≡ n) → (b ≡ false → m ≢ n) → m ≡ now → n ≡ before
+    → MatchBool (not b) (now ≢ before) (now ≡ before)
+differs_by true m n now before same other is was = sym is ∙ (same refl ∙ was)
+differs_by false m n now before same other is was = λ e. other refl (is ∙ (e ∙ sym was))
 
 -- the book with a volume begun, or without
 abbrev begun_book : Bool → Book → ℕ → Book
