@@ -137,13 +137,11 @@ impl<D: Disk> Vault<D> {
             rt,
             alloc,
             taken,
-            payload: payload.as_slice(),
+            payload,
             digest,
         };
         match self.take(rt, pass, listed, first) {
             FirstAnswer::Compared(looked) => {
-                // No memory is held while the second turn is waited for.
-                drop(payload);
                 self.commit(rt, alloc, pass, listed, taken, digest, looked)
             }
             FirstAnswer::Whole(answer) => answer,

@@ -18,6 +18,13 @@ use Rattle.vault_turns.specs.declared.noted.Noted.{Noted}
 
 -- ---- what was looked for serves at once
 
+-- the bytes that were looked for are the capture's payload
+pub of_payload : (by : ℕ) (found after : List Noted) (bytes payload : List ℕ) (result : Result Looked StoreFault) → bytes ≡ payload
+    → Adds by_of by found after (λ added. Compares (is_told found) bytes found added result)
+    → Adds by_of by found after (λ added. Compares (is_told found) payload found added result)
+of_payload by found after bytes payload result same looks =
+    subst (λ (p : List ℕ). Adds by_of by found after (λ added. Compares (is_told found) p found added result)) same looks
+
 module _ (taken : Taken) (payload : List ℕ) (by : ℕ) (found middle : List Noted) (looked : Looked)
     (looks : Adds by_of by found middle (λ added. Compares (is_told found) payload found added (Ok looked))) where
   still_there : middle ≡ found

@@ -6,6 +6,7 @@ use archive_core::compared_payloads_serve_later;
 use archive_shelf::{Looked, Receipt, StoreFault};
 use capture::{Digest, Taken, growth_keeps_captures};
 use disk_model::Disk;
+use message_body::Payload;
 use std::alloc::Global;
 use std::sync::Wait;
 
@@ -19,24 +20,25 @@ pub enum FirstAnswer {
 }
 
 /// A capture that is to be stored, whose payload is looked for among all captures, byte for byte.
-pub struct FirstTurn<'a, 't, 'p, R> {
+pub struct FirstTurn<'a, 't, R> {
     /// A publication may wait for readers.
     pub rt: &'a R,
     pub alloc: Global,
     pub taken: &'t Taken,
-    pub payload: &'p [u8],
+    /// The capture's payload. What is joined of a chunked one is let go once it was looked for.
+    pub payload: Payload<'t>,
     /// The digest of the payload.
     pub digest: Digest,
 }
 
-impl<'a, 't, 'p, R: Wait, D: Disk> Act<D> for FirstTurn<'a, 't, 'p, R> {
+impl<'a, 't, R: Wait, D: Disk> Act<D> for FirstTurn<'a, 't, R> {
     ghost use Rattle.vault_turns.specs.FirstTurns.{Begins, IsReady};
 
     type Answer = FirstAnswer;
 
-    ghost ready = { λ work found. IsReady work.taken.now work.payload.now work.digest };
+    ghost ready = { λ work found. IsReady work.taken.now work.payload work.digest };
 
-    ghost does = { λ work tells entries found added answer. Begins tells work.taken.now work.payload.now found added answer };
+    ghost does = { λ work tells entries found added answer. Begins tells work.taken.now work.payload found added answer };
 
     fn act(self, by: u32, value: &mut Published<D>) -> FirstAnswer {
         compared_payloads_serve_later();
@@ -48,7 +50,10 @@ impl<'a, 't, 'p, R: Wait, D: Disk> Act<D> for FirstTurn<'a, 't, 'p, R> {
             payload,
             digest,
         } = self;
-        match value.compare(by, alloc, payload, &digest) {
+        let compared = value.compare(by, alloc, payload.as_slice(), &digest);
+        // The group that is made of the capture takes as much again.
+        drop(payload);
+        match compared {
             Ok(looked) => match looked.same {
                 Some(_) => FirstAnswer::Compared(looked),
                 None => {

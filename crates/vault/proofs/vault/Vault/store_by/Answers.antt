@@ -17,14 +17,12 @@ take-requires-clause-begun g c = names_begun c.args.pass.now.seen c.args.listed.
 
 pub take-requires-clause-ready : goal.take-requires-clause-ready
 take-requires-clause-ready g c = λ found shows.
-    let payload = c.as_slice-2.result.now in
-    let has = subst (λ (p : List ℕ). HasPayload c.args.taken.now.cut c.args.taken.now.method c.args.taken.now.head c.args.taken.now.wire p)
-    (sym c.as_slice-2.ensures) c.in-Ok.ensures in
-    let digest = c.payload_digest-digest.ensures ∙ ap sha1 (c.as_slice.ensures ∙ sym c.as_slice-2.ensures) in (
+    let digest = c.payload_digest-digest.ensures ∙ ap sha1 c.as_slice.ensures in (
       c.requires.fits,
-      has,
+      c.in-Ok.ensures,
       digest,
-      subst (λ (d : List ℕ). IsDigestOf c.args.taken.now d) (sym digest) (c.compared_payloads_serve_later.ensures.digest c.args.taken.now payload has),
+      subst (λ (d : List ℕ). IsDigestOf c.args.taken.now d) (sym digest)
+          (c.compared_payloads_serve_later.ensures.digest c.args.taken.now c.in-Ok.payload c.in-Ok.ensures),
     )
 
 pub commit-requires-clause-begun : goal.commit-requires-clause-begun
@@ -33,7 +31,7 @@ commit-requires-clause-begun g c = names_begun c.take.new.pass.seen c.take.new.l
 pub commit-requires-clause-right : goal.commit-requires-clause-right
 commit-requires-clause-right g c = λ found shows.
     let tells = is_told c.args.pass.now.seen in
-    let payload = c.as_slice-2.result.now in
+    let payload = c.in-Ok.payload in
     let turn = subst (λ (a : FirstAnswer). Turn by_of c.args.pass.now c.take.new.pass.seen (λ found added. Begins tells c.args.taken.now payload found added a))
     c.in-Compared.is c.take.ensures.turn in
     subst (λ (t : Bool). IsRightOf (told_in t found) c.args.taken.now c.in-Compared.looked) (sym c.take.ensures.told)
@@ -41,14 +39,13 @@ commit-requires-clause-right g c = λ found shows.
     c.compared_payloads_serve_later.ensures.found c.growth_keeps_captures.ensures.itself c.growth_keeps_captures.ensures.steps
     (names_begun c.args.pass.now.seen c.args.listed.now.note.of c.requires.listed.named)
     c.args.taken.now
-    (subst (λ (p : List ℕ). HasPayload c.args.taken.now.cut c.args.taken.now.method c.args.taken.now.head c.args.taken.now.wire p)
-    (sym c.as_slice-2.ensures) c.in-Ok.ensures)
+    c.in-Ok.ensures
     c.take.new.pass.passes c.take.new.pass.numbers found shows)
 
 pub returns-in-Compared-clause-stores : goal.returns-in-Compared-clause-stores
 returns-in-Compared-clause-stores g c =
     let tells = is_told c.args.pass.now.seen in
-    let payload = c.as_slice-2.result.now in
+    let payload = c.in-Ok.payload in
     let turn = subst (λ (a : FirstAnswer). Turn by_of c.args.pass.now c.take.new.pass.seen (λ found added. Begins tells c.args.taken.now payload found added a))
     c.in-Compared.is c.take.ensures.turn in
     committed_later tells c.args.taken.now c.args.pass.now c.take.new.pass c.commit.new.pass c.take.ensures.same c.commit.result
@@ -59,9 +56,8 @@ returns-in-Compared-clause-stores g c =
 pub returns-in-Whole-clause-stores : goal.returns-in-Whole-clause-stores
 returns-in-Whole-clause-stores g c =
     let tells = is_told c.args.pass.now.seen in
-    let payload = c.as_slice-2.result.now in
+    let payload = c.in-Ok.payload in
     answered_at_once tells c.args.taken.now payload c.args.pass.now c.take.new.pass c.in-Whole.answer
-    (subst (λ (p : List ℕ). HasPayload c.args.taken.now.cut c.args.taken.now.method c.args.taken.now.head c.args.taken.now.wire p)
-    (sym c.as_slice-2.ensures) c.in-Ok.ensures)
+    c.in-Ok.ensures
     (subst (λ (a : FirstAnswer). Turn by_of c.args.pass.now c.take.new.pass.seen (λ found added. Begins tells c.args.taken.now payload found added a))
     c.in-Whole.is c.take.ensures.turn)
