@@ -11,7 +11,6 @@ mod SeatLaws
 mod ServeLaws
 mod SoundVolumes
 mod StatusLaws
-mod TrialLaws
 mod VaultSeats
 mod VerifiedLaws
 mod VerifyLaws

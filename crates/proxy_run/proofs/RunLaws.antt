@@ -13,7 +13,7 @@ use Rattle.proxy_run.specs.Pipes.{Pipes, Refuses}
 use Rattle.command.specs.Printing.{Prints, printed_as}
 use Rattle.proxy_run.specs.Runs.{NamesNone, Runs}
 use Rattle.command.specs.Texts.{usage}
-use Rattle.proxy_run.specs.steps.TrialRuns.{Tries}
+use Rattle.load_trial.specs.Trials.{Tries}
 use Rattle.proxy_run.specs.Verifies.{IsVerified}
 use Rattle.command.specs.Words.{asked_of}
 use Rattle.command.specs.declared.status.Status.{Status}

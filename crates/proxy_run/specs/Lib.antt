@@ -9,6 +9,5 @@ pub mod Serves
 pub mod Serving
 pub mod steps
 pub mod StopTexts
-pub mod Trials
 pub mod Verified
 pub mod Verifies

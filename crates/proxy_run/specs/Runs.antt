@@ -14,7 +14,7 @@ use Rattle.proxy_run.specs.Pipes.{Pipes, Refuses}
 use Rattle.command.specs.Printing.{LacksMemory, Prints, printed_as}
 use Rattle.proxy_run.specs.Serves.{LacksShelves, Serves}
 use Rattle.command.specs.Texts.{usage}
-use Rattle.proxy_run.specs.Trials.{IsTried}
+use Rattle.load_trial.specs.Trials.{IsTried}
 use Rattle.proxy_run.specs.Verifies.{IsVerified}
 use Rattle.command.specs.declared.status.Status.{Status}
 use Rattle.command.specs.declared.status.Status.TheVariants as status

@@ -1,3 +1,2 @@
 pub mod Verifying
 pub mod Seating
-pub mod TrialRuns

@@ -12,7 +12,6 @@ mod running;
 mod seating;
 mod server;
 mod serving;
-mod trying;
 mod verifying;
 
 pub use command::{Known, Unknown};

@@ -4,8 +4,8 @@ use Rattle.archive_core.specs.Told.{told_of}
 use Rattle.disk_model.specs.Device.{reading_of}
 use Rattle.disk_model.specs.contracts.memory_disk.MemoryDiskDisk.TheImpl.{ghosts}
 use Rattle.warc_journal.specs.Extents.{warc_files}
-use Rattle.proxy_run.proofs.TrialLaws.{not_held, tried_by}
-use Rattle.proxy_run.proofs.trying.tell.Goals as goal
+use Rattle.load_trial.proofs.TrialLaws.{not_held, tried_by}
+use Rattle.load_trial.proofs.trying.tell.Goals as goal
 
 pub returns-then-is_due : goal.returns-then-is_due
 returns-then-is_due c = λ seed filled.

@@ -3,8 +3,8 @@ use Rattle.std.proofs.Common.{◌≡◌, [], length, refl, sym, ap, ◌∙◌}
 use Rattle.archive_shelf.specs.declared.counts.Counts.{Counts}
 use Rattle.disk_model.specs.Device.{reading_of}
 use Rattle.warc_journal.specs.Extents.{warc_files}
-use Rattle.proxy_run.proofs.TrialLaws.{new_has_just, no_warc_files}
-use Rattle.proxy_run.proofs.trying.new_shelf.Goals as goal
+use Rattle.load_trial.proofs.TrialLaws.{new_has_just, no_warc_files}
+use Rattle.load_trial.proofs.trying.new_shelf.Goals as goal
 
 pub new-requires-then-counts-eq0-clause-told : goal.new-requires-then-counts-eq0-clause-told
 new-requires-then-counts-eq0-clause-told c = c.in-Ok.ensures.reopened.told_is

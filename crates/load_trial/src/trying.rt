@@ -4,14 +4,12 @@ ghost use Rattle.archive_core.specs.Told.{told_of};
 ghost use Rattle.archive_shelf.specs.Storing.{counts_of};
 ghost use Rattle.load_shelf.specs.Loads.{IsFilled};
 ghost use Rattle.outside.specs.MemoryLink.{IsNew};
-ghost use Rattle.proxy_run.specs.Trials.{IsTried};
-ghost use Rattle.proxy_run.specs.steps.TrialRuns.{Tries, trial_namespace, trial_volume};
+ghost use Rattle.load_trial.specs.Trials.{IsTried, Tries, trial_namespace, trial_volume};
 
-use crate::serving::site_of_pipe;
 use archive_core::Archive;
 use archive_reopening::reopen;
 use archive_shelf::{Depth, Shelf};
-use capture::{Limits, Memory, Site};
+use capture::{Limits, Memory, Site, Text};
 use command::{Ran, Status, print_as, trial_text};
 use disk_model::{Disk, Kind, MemoryDisk};
 use load_maker::{client, date, origin};
@@ -62,13 +60,7 @@ fn tried(alloc: Global, count: u32, seed: u64) -> Result<Vec<u8>, Memory>
     ensures { IfOk result (λ text. IsTried count seed text.items) }
 {
     let mut shelf = new_shelf(alloc, seed)?;
-    serve_all(alloc, &mut shelf, count, seed)?;
-    for _ in 0..count {
-        if !shelf.replay_next(alloc) {
-            return Err(Memory);
-        }
-    }
-    if shelf.is_filled(seed, count) {
+    if fill(alloc, &mut shelf, count, seed) {
         return tell(alloc, shelf.into_shelf(), count);
     }
     Err(Memory)
@@ -88,9 +80,24 @@ fn new_shelf(alloc: Global, seed: u64) -> Result<LoadShelf<Archive<MemoryDisk>>,
     Err(Memory)
 }
 
+/// Stores a load and brings it back, and says whether the shelf has it then.
+fn fill<S: Shelf>(alloc: Global, shelf: &mut LoadShelf<S>, count: u32, seed: u64) -> bool
+    ensures { IsTrue result → IsTrue S.alone → IsFilled (S.told shelf.new.shelf) seed count count }
+{
+    if serve_all(alloc, shelf, count, seed).is_err() {
+        return false;
+    }
+    for _ in 0..count {
+        if !shelf.replay_next(alloc) {
+            return false;
+        }
+    }
+    shelf.is_filled(seed, count)
+}
+
 /// Serves the exchanges of a load over connections, one after the other.
 fn serve_all<S: Shelf>(alloc: Global, shelf: &mut S, count: u32, seed: u64) -> Result<(), Memory> {
-    let site = site_of_pipe(alloc)?;
+    let site = site(alloc)?;
     let mut from = 0;
     'serving: while from < count {
         let to = if count - from > A_CONNECTION {
@@ -98,16 +105,46 @@ fn serve_all<S: Shelf>(alloc: Global, shelf: &mut S, count: u32, seed: u64) -> R
         } else {
             count
         };
-        let requests = client(alloc, from, to)?.into_vec();
-        let mut member = member_for(alloc, seed, from, to)?;
-        serve_load(alloc, shelf, &site, requests, &mut member)?;
+        serve_part(alloc, shelf, &site, &Part { seed, from, to })?;
         from = to;
     }
     Ok(())
 }
 
+/// The site of the archive to which the requests come.
+fn site(alloc: Global) -> Result<Site, Memory> {
+    Ok(Site {
+        base: Text::from_str(alloc, "http://localhost:8080")?,
+        host: Text::from_str(alloc, "localhost")?,
+        port: 8080,
+    })
+}
+
+/// The exchanges of a load that one connection has.
+#[derive(Drop)]
+struct Part {
+    /// Which load it is.
+    seed: u64,
+    /// The number of the first exchange.
+    from: u32,
+    /// The number behind the last one.
+    to: u32,
+}
+
 /// Serves the requests of one connection.
-fn serve_load<S: Shelf>(
+fn serve_part<S: Shelf>(
+    alloc: Global,
+    shelf: &mut S,
+    site: &Site,
+    part: &Part,
+) -> Result<(), Memory> {
+    let requests = client(alloc, part.from, part.to)?.into_vec();
+    let mut member = member_for(alloc, part)?;
+    serve_requests(alloc, shelf, site, requests, &mut member)
+}
+
+/// Serves these requests by a member.
+fn serve_requests<S: Shelf>(
     alloc: Global,
     shelf: &mut S,
     site: &Site,
@@ -130,14 +167,9 @@ fn serve_load<S: Shelf>(
 }
 
 /// A dialer to the origins of exchanges, and a clock with their dates.
-fn member_for(
-    alloc: Global,
-    seed: u64,
-    from: u32,
-    to: u32,
-) -> Result<(MemoryDialer, MemoryClock), Memory> {
-    let dates = dates(alloc, from, to)?;
-    let links = origins(alloc, seed, from, to)?;
+fn member_for(alloc: Global, part: &Part) -> Result<(MemoryDialer, MemoryClock), Memory> {
+    let dates = dates(alloc, part.from, part.to)?;
+    let links = origins(alloc, part.seed, part.from, part.to)?;
     Ok((
         MemoryDialer::new(alloc, links, Vec::new(alloc)),
         MemoryClock::new(dates),

@@ -12,8 +12,8 @@ use Rattle.capture.specs.declared.captured.Stored.{Stored}
 use Rattle.disk_model.specs.Image.{Image, files_of, no_files}
 use Rattle.load_shelf.specs.Loads.{HoldsFirst, IsFilled}
 use Rattle.command.specs.Texts.{trial_text}
-use Rattle.proxy_run.specs.Trials.{IsTried}
-use Rattle.proxy_run.specs.steps.TrialRuns.{trial_namespace, trial_volume}
+use Rattle.load_trial.specs.Trials.{IsTried}
+use Rattle.load_trial.specs.Trials.{trial_namespace, trial_volume}
 use Rattle.warc_journal.specs.Extents.{warc_files}
 use Rattle.warc_journal.specs.Texts.{AreJust}
 
