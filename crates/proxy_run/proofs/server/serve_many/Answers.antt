@@ -1,24 +1,31 @@
 -- The archive was refused, or there was no memory for its shelves, or it was served over.
-use Rattle.std.proofs.Common.{IsTrue, refl, sym, ap, subst, ◌∙◌, inl, inr, arith}
+use Rattle.std.proofs.Common.{ℕ, List, Option, IsTrue, refl, sym, ap, subst, ◌∙◌, inl, inr, arith}
+use Rattle.std.specs.Prelude.{IfSome}
 use Rattle.archive_core.specs.Holdings.{Holdings, contents_of}
+use Rattle.archive_reopening.specs.Known.{by_checkpoints}
 use Rattle.archive_core.specs.Stood.{KeepsOn, KeepsStood, Stood, StoodOn}
+use Rattle.archive_opening.specs.Telling.{MayBeSettled}
 use Rattle.archive_volumes.specs.Volumes.{OpensNear}
 use Rattle.warc_journal.specs.Journals.{disk_of}
 use Rattle.command.specs.Objects.{kinds_of, objects_of}
-use Rattle.command.specs.Settling.{ClosesSettled}
+use Rattle.command.specs.Opening.{IsNotOpened}
+use Rattle.command.specs.Printing.{printed_as}
+use Rattle.command.specs.Settling.{ClosesSettled, OpensSettled}
 use Rattle.proxy_run.specs.Serves.{Serves}
 use Rattle.command.specs.Words.{asked_of}
 use Rattle.command.specs.declared.status.Status.TheVariants.{Memory}
 use Rattle.proxy_run.specs.steps.Seating.{IsNameOf}
 use Rattle.vault_turns.specs.Calm.{StillStands}
 use Rattle.vault_turns.specs.declared.noted.Sure.{Sure}
+use Rattle.warc_text.specs.Ids.{IsUuid}
 use Rattle.proxy_run.proofs.server.serve_many.Goals as goal
 
 pub open_and_settle-requires-clause-uuid : goal.open_and_settle-requires-clause-uuid
-open_and_settle-requires-clause-uuid g c = rw c.asked_of.ensures c.requires.uuid
+open_and_settle-requires-clause-uuid g c = subst (λ (asked : Option (List ℕ)). IfSome asked IsUuid) (sym c.asked_of.ensures) c.requires.uuid
 
 pub open_and_settle-requires-clause-known : goal.open_and_settle-requires-clause-known
-open_and_settle-requires-clause-known g c = rw c.asked_of.ensures c.requires.known
+open_and_settle-requires-clause-known g c =
+    subst (λ (asked : Option (List ℕ)). MayBeSettled g.D.Disk c.args.disk asked g.K.Known.book) (sym c.asked_of.ensures) c.requires.known
 
 pub left_sure-sure-requires : goal.left_sure-sure-requires
 left_sure-sure-requires g c = c.in-Ok.ensures.opened.left
@@ -38,7 +45,11 @@ new-requires-clause-lasts g c = λ sure.
     subst (λ (s : Sure). StillStands g.D.Disk s.stood c.in-Ok.archive) (sym c.left_sure-sure.ensures.value) c.stood_on-stood.ensures.keeps
 
 pub returns-in-Err : goal.returns-in-Err
-returns-in-Err g c = inr (inr (record { refused = rw c.asked_of.ensures at c.in-Err.ensures.refused; untouched = refl }))
+returns-in-Err g c = inr (inr (record {
+  refused = subst (λ (asked : Option (List ℕ)). IsNotOpened g.D.Disk g.O.Sink (by_checkpoints c.args.disk asked g.K.Known.book) c.in-Err.ran.disk
+      (printed_as c.args.out.now c.open_and_settle.new.out c.in-Err.ran.status)) c.asked_of.ensures c.in-Err.ensures.refused;
+  untouched = refl;
+}))
 
 pub returns-in-Ok-new : goal.returns-in-Ok-new
 returns-in-Ok-new g c =
@@ -60,8 +71,10 @@ returns-in-Ok-new g c =
     let on : IsTrue g.D.Disk.tells → StoodOn g.D.Disk c.args.disk c.in-Ok-new.unnamed.sure.stood = λ tells.
     subst (λ (s : Stood). StoodOn g.D.Disk c.args.disk s) (sym (ap (λ (s : Sure). s.stood) sure))
     (subst (λ (disk : _). StoodOn g.D.Disk disk c.stood_on-stood.result.value) c.told_by-given.ensures (c.stood_on-stood.ensures.on tells)) in
-    let served = c.serve_named.ensures known asked c.args.disk c.in-Ok.archive
-    (rw c.asked_of.ensures at c.in-Ok.ensures.opened) name on in
+    let opened : OpensSettled g.D.Disk (by_checkpoints c.args.disk asked known) c.in-Ok.archive =
+    subst (λ (a : Option (List ℕ)). OpensSettled g.D.Disk (by_checkpoints c.args.disk a known) c.in-Ok.archive) c.asked_of.ensures
+    c.in-Ok.ensures.opened in
+    let served = c.serve_named.ensures known asked c.args.disk c.in-Ok.archive opened name on in
     inl (subst (λ n. Serves kinds known (record { asked = asked; site = c.args.service.site.now; workers = n }) (objects_of c.args.disk c.args.gate.now c.args.crew.now.items c.args.out.now) is c.serve_named.result.status)
     c.in-Ok-new.ensures.passes
     (subst (λ o. Serves kinds known (record { asked = asked; site = c.args.service.site.now; workers = c.in-Ok-new.unnamed.passes }) (objects_of c.args.disk c.args.gate.now c.args.crew.now.items o) is c.serve_named.result.status)
@@ -71,7 +84,8 @@ pub returns : goal.returns
 returns g c =
     inr (inl (record {
       before = c.in-Ok.archive;
-      opened = rw c.asked_of.ensures at c.in-Ok.ensures.opened;
+      opened = subst (λ (asked : Option (List ℕ)). OpensSettled g.D.Disk (by_checkpoints c.args.disk asked g.K.Known.book) c.in-Ok.archive)
+          c.asked_of.ensures c.in-Ok.ensures.opened;
       closed = subst (λ (h : Holdings g.row.D.Denot). ClosesSettled g.D.Disk h Memory c.settle_and_close.result.disk c.settle_and_close.result.status)
           c.in-Err-new.ensures.err c.settle_and_close.ensures.closed;
       near = subst (λ (h : Holdings g.row.D.Denot). IsTrue h.told → OpensNear g.D.Disk c.settle_and_close.result.disk h.book) c.in-Err-new.ensures.err
