@@ -10,6 +10,7 @@ mod SameVerdicts
 mod SeatLaws
 mod ServeLaws
 mod SoundVolumes
+mod StaffLaws
 mod StatusLaws
 mod VaultSeats
 mod VerifiedLaws

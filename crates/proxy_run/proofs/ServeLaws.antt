@@ -40,16 +40,18 @@ use Rattle.crew.specs.Crews.{IsEnd, all_hung_up}
 use Rattle.command.specs.Objects.{Kinds, Objects}
 use Rattle.command.proofs.OpeningLaws.{only_one}
 use Rattle.command.proofs.SettlingLaws.{closed_all, closed_faults, closed_from, closed_right, closed_rose, ready_consistent, ready_faults, ready_in, ready_none, ready_tells, told_tells}
-use Rattle.command.specs.Printing.{LacksMemory, Prints}
+use Rattle.command.specs.Printing.{LacksMemory, Prints, PrintsAll}
 use Rattle.command.specs.Settling.{ClosesSettled, settled_status}
 use Rattle.proxy_run.proofs.CompleteLaws.{not_risen, printed_or_lacked, refused_known}
 use Rattle.proxy_run.proofs.NextLaws.{all_next, settled_next, sound_still, stands_same}
 use Rattle.proxy_run.specs.Complete.{IsSteady, NoFaults}
 use Rattle.proxy_run.specs.Pipes.{Refuses}
+use Rattle.proxy_run.proofs.StaffLaws.{lack_told, steady_then}
 use Rattle.proxy_run.proofs.StatusLaws.{memory_told, said_by, settled_well}
 use Rattle.proxy_run.proofs.VaultSeats.{IsNewcomer}
 use Rattle.proxy_run.specs.Promises.{AllAreHungUp, AllAreReadOut, AreReadOut, BooksLeadOn, BooksOnlyGrow, CapturesAreStoredOnce, FaultsAreCounted, GatesAreEmptied, IsHeardOut, IsReadOut, LeadTo, LeadsTo, LogsAreInOrder, ServersAreAnswered, ServersCapturesComeBack, ServersLeaveReady, ServersLeaveSettled, ServersLeaveTheLast, ServersWithoutShelvesComeBack, ServersWithoutShelvesLeaveReady, numbers_of, rounds_in, rounds_of}
 use Rattle.proxy_run.specs.Serves.{LacksShelves, Seat, Serves, told_by}
+use Rattle.proxy_run.specs.Staffing.{HasThreads, LacksThreads, no_thread}
 use Rattle.command.specs.Gates.{unheard}
 use Rattle.crew.specs.Shifts.{AreShifts, Hand, IsShift, hand_of, hands_of}
 use Rattle.command.specs.Texts.{captures_line}
@@ -74,6 +76,10 @@ stands_last image x was now (inr (none, none₂)) grows sound stands =
     stands_same image x now (inr (none, none₂)) (sound_still was now grows sound none₂) stands
 
 -- ---- the status
+
+done_or_more : {A B C : Type 0} → A ⊎ B → A ⊎ B ⊎ C
+done_or_more (inl done) = inl done
+done_or_more (inr memory) = inr (inl memory)
 
 printed_done : (said printed status : Status) → (said ≡ Memory → status ≡ Memory) → (said ≢ Memory → status ≡ printed) → status ≡ Done → printed ≡ Done
 printed_done Done printed status lacking is done = sym (is (λ memory. cc memory)) ∙ done
@@ -488,6 +494,21 @@ module _ {D G L P N M C O : Type 0} (kinds : Kinds D G L P N M C O) where
       inr (refused_known kinds known (Some namespace) was is status told steady refuses)
   server_answered known namespace site workers was is status told steady (inr (inr (inr lacks))) = inr lacks.0
 
+  staffed_answered : (known : Option Book) (namespace : List ℕ) (site : Site) (workers : ℕ) (was is : Objects D G (List (N × C)) O) (status : Status)
+      → IsTrue (told_at Checkpoints kinds.disks.tells known) → NoFaults kinds was is
+      → (LacksThreads kinds.sinks workers was.out is.out status × (is ≡ record was { out = is.out }))
+      ⊎ ((out : O) × HasThreads kinds.sinks workers was.out out
+      × (Serves kinds known (record { asked = Some namespace; site = site; workers = workers }) (record was { out = out }) is status
+      ⊎ LacksShelves kinds known (Some namespace) (record was { out = out }) is status
+      ⊎ Refuses kinds (by_checkpoints was.disk (Some namespace) known) (record was { out = out }) is status
+      ⊎ ((status ≡ Memory) × (is ≡ record was { out = out }))))
+      → (status ≡ Done) ⊎ (status ≡ Memory) ⊎ PrintsAll kinds.sinks Outside no_thread was.out is.out status
+  staffed_answered known namespace site workers was is status told steady (inl (lacks, same)) =
+      inr (lack_told kinds.sinks workers was.out is.out status lacks steady.out)
+  staffed_answered known namespace site workers was is status told steady (inr (out, has, served)) =
+      done_or_more (server_answered known namespace site workers (record was { out = out }) is status told
+      (steady_then kinds known workers was is out has steady) served)
+
   pub servers_answered : ServersAreAnswered kinds
   servers_answered known namespace site workers was is status told steady runs =
-      server_answered known namespace site workers was is status told steady runs
+      staffed_answered known namespace site workers was is status told steady runs

@@ -7,6 +7,7 @@ pub mod Promises
 pub mod Runs
 pub mod Serves
 pub mod Serving
+pub mod Staffing
 pub mod steps
 pub mod StopTexts
 pub mod Verified

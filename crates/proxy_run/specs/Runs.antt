@@ -13,6 +13,7 @@ use Rattle.command.specs.Objects.{Kinds, Objects, UsesFirst, objects_of, with_on
 use Rattle.proxy_run.specs.Pipes.{Pipes, Refuses}
 use Rattle.command.specs.Printing.{LacksMemory, Prints, printed_as}
 use Rattle.proxy_run.specs.Serves.{LacksShelves, Serves}
+use Rattle.proxy_run.specs.Staffing.{HasThreads, LacksThreads}
 use Rattle.command.specs.Texts.{usage}
 use Rattle.load_trial.specs.Trials.{IsTried}
 use Rattle.proxy_run.specs.Verifies.{IsVerified}
@@ -33,7 +34,8 @@ module _ {D G L P N M C O : Type 0} (kinds : Kinds D G L P N M C O) (known : Opt
 
   -- By what the words ask for, and the site of a base among them, and which book is known of the disk, if one is. For a pipe, and to follow a source, the first
   -- member of the crew works, and the others stay; an import doesn't touch the crew, and to follow a source doesn't touch the gate. There may be no memory to look
-  -- at the base: then nothing is touched. Where an archive is counted, or the bytes of its volumes are checked, neither gate nor crew is touched, and a trial, which
+  -- at the base: then nothing is touched. A server for which there are fewer threads than workers says so first, and where there is none it ends so: then nothing
+  -- else is touched. Where an archive is counted, or the bytes of its volumes are checked, neither gate nor crew is touched, and a trial, which
   -- is made in memory, doesn't touch the disk either. A check of bytes doesn't depend on how many workers made it.
   abbrev pub Runs : Option Command → Option Site → Objects D G (List (N × C)) O → Objects D G (List (N × C)) O → Status → Type 0
   Runs None site was is result = Misspells was is result
@@ -54,7 +56,9 @@ module _ {D G L P N M C O : Type 0} (kinds : Kinds D G L P N M C O) (known : Opt
       × (is.gate ≡ was.gate))
       ⊎ Refuses kinds (by_checkpoints was.disk (Some namespace) known) was is result ⊎ ((result ≡ status.Memory) × (is ≡ was))
   Runs (Some (Serve namespace workers)) None was is result = Misspells was is result ⊎ ((result ≡ status.Memory) × (is ≡ was))
-  Runs (Some (Serve namespace workers)) (Some site) was is result =
+  Runs (Some (Serve namespace workers)) (Some site) given is result =
+      (LacksThreads kinds.sinks workers given.out is.out result × (is ≡ record given { out = is.out }))
+      ⊎ (out : O) × HasThreads kinds.sinks workers given.out out × let was = record given { out = out } in
       Serves kinds known (record { asked = Some namespace; site = site; workers = workers }) was is result
       ⊎ LacksShelves kinds known (Some namespace) was is result
       ⊎ Refuses kinds (by_checkpoints was.disk (Some namespace) known) was is result ⊎ ((result ≡ status.Memory) × (is ≡ was))

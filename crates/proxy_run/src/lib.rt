@@ -12,6 +12,7 @@ mod running;
 mod seating;
 mod server;
 mod serving;
+mod staffing;
 mod verifying;
 
 pub use command::{Known, Unknown};

@@ -10,7 +10,7 @@ ghost use Rattle.command.specs.Words as word;
 use crate::checking::check;
 use crate::piping::pipe;
 use crate::replicating::follow;
-use crate::server::{Service, serve_many};
+use crate::server::{Service, serve_by_threads};
 use crate::verifying::verify;
 use capture::{Memory, Site};
 use command::{Command, Known, Ran, Status, Unknown, begin, command_of, print_as, site_of};
@@ -38,7 +38,7 @@ pub struct Crew<N, C> {
 /// member's dialer and clock, and hangs it up; NS is the archive's namespace, a UUID in lower case with hyphens. What the client is
 /// given of an origin stands on the disk first. `serve NS BASE WORKERS` does so with the connections of many clients: so many members, 1 to
 /// 16, serve them side by side over one archive, at the site of that base, until the gate is closed; then it prints how many captures there
-/// are. `import NS` opens the archive, reads the gate's first connection to its end, and stores
+/// are. Where the system has threads for some of them alone it prints for how many first, and where it has none for any it says so and serves nobody. `import NS` opens the archive, reads the gate's first connection to its end, and stores
 /// the captures of the WARC file that it gave. `check` opens the archive and prints how much it holds. `trial COUNT NUMBER`
 /// stores so many exchanges of the load with that number in memory, brings them back, and prints how much that is. `verify WORKERS`
 /// checks the bytes of the archive's volumes by so many workers, 1 to 16, and prints the verdicts. All other words print the usage.
@@ -172,7 +172,9 @@ where
                     workers,
                 };
                 let members = &mut crew.members;
-                serve_many::<K, R, D, G, N, C, O>(rt, alloc, service, disk, gate, members, out)
+                serve_by_threads::<K, R, D, G, N, C, O>(
+                    rt, alloc, service, disk, gate, members, out,
+                )
             }
             Err(status) => Ran { status, disk },
         },

@@ -9,6 +9,7 @@ use Rattle.command.specs.declared.words.Command.{Command}
 use Rattle.command.specs.declared.words.Command.TheVariants.{Serve}
 use Rattle.crew.proofs.CrewLaws.{first_is, first_set}
 use Rattle.proxy_run.proofs.RunLaws.{follow_siteless, runs_check, runs_follow, runs_import, runs_none, runs_pipe, runs_trial, runs_verify}
+use Rattle.proxy_run.proofs.StaffLaws.{serve_siteless}
 use Rattle.proxy_run.proofs.running.run_over.Goals as goal
 
 pub returns-in_default : goal.returns-in_default
@@ -78,20 +79,23 @@ workers_within : (command : Command) (namespace : List ℕ) (workers : ℕ) → 
     → IfSome (workers_of command) (λ n. (0 < n) × (n ≤ 16)) → (0 < workers) × (workers ≤ 16)
 workers_within command namespace workers is within = subst (λ c. IfSome (workers_of c) (λ n. (0 < n) × (n ≤ 16))) is within
 
-pub serve_many-requires-clause-uuid : goal.serve_many-requires-clause-uuid
-serve_many-requires-clause-uuid g c = λ κs outlives. subst (λ command. IfSome (asked_of command) IsUuid) c.in-Serve.is c.in-Some.ensures.uuid
+pub serve_by_threads-requires-clause-named : goal.serve_by_threads-requires-clause-named
+serve_by_threads-requires-clause-named g c = λ κs outlives. (c.in-Serve.field-0, refl)
 
-pub serve_many-requires-clause-some : goal.serve_many-requires-clause-some
-serve_many-requires-clause-some g c = λ κs outlives. (workers_within _ _ _ c.in-Serve.is c.in-Some.ensures.workers).0
+pub serve_by_threads-requires-clause-uuid : goal.serve_by_threads-requires-clause-uuid
+serve_by_threads-requires-clause-uuid g c = λ κs outlives. subst (λ command. IfSome (asked_of command) IsUuid) c.in-Serve.is c.in-Some.ensures.uuid
 
-pub serve_many-requires-clause-few : goal.serve_many-requires-clause-few
-serve_many-requires-clause-few g c = λ κs outlives. (workers_within _ _ _ c.in-Serve.is c.in-Some.ensures.workers).1
+pub serve_by_threads-requires-clause-some : goal.serve_by_threads-requires-clause-some
+serve_by_threads-requires-clause-some g c = λ κs outlives. (workers_within _ _ _ c.in-Serve.is c.in-Some.ensures.workers).0
 
-pub serve_many-requires-clause-enough : goal.serve_many-requires-clause-enough
-serve_many-requires-clause-enough g c = λ κs outlives. omega (arith, (workers_within _ _ _ c.in-Serve.is c.in-Some.ensures.workers).1, c.requires.crew)
+pub serve_by_threads-requires-clause-few : goal.serve_by_threads-requires-clause-few
+serve_by_threads-requires-clause-few g c = λ κs outlives. (workers_within _ _ _ c.in-Serve.is c.in-Some.ensures.workers).1
 
-pub serve_many-requires-clause-known : goal.serve_many-requires-clause-known
-serve_many-requires-clause-known g c = λ κs outlives.
+pub serve_by_threads-requires-clause-enough : goal.serve_by_threads-requires-clause-enough
+serve_by_threads-requires-clause-enough g c = λ κs outlives. omega (arith, (workers_within _ _ _ c.in-Serve.is c.in-Some.ensures.workers).1, c.requires.crew)
+
+pub serve_by_threads-requires-clause-known : goal.serve_by_threads-requires-clause-known
+serve_by_threads-requires-clause-known g c = λ κs outlives.
     subst (λ command. MayBeSettled g.D.Disk c.args.disk (asked_of command) g.K.Known.book) c.in-Serve.is
     (subst (λ found. IfSome found (λ command. MayBeSettled g.D.Disk c.args.disk (asked_of command) g.K.Known.book)) (sym c.command_of.ensures.value ∙ c.in-Some.is) c.requires.known)
 
@@ -118,3 +122,9 @@ returns-in-Err g c =
     follow_siteless (kinds_of g.D.Disk g.G.Gate g.N.Dialer g.C.Clock g.O.Sink g.G.Link.Link.tells g.N.Link.Link.tells) g.K.Known.book _ _ c.in-Some.command c.in-Follow.field-0
     (objects_of c.args.disk c.args.gate.now c.args.crew.now.members.items c.args.out.now) c.named_site.new.out c.in-Err.status
     (sym c.command_of.ensures.value ∙ c.in-Some.is) c.in-Follow.is c.in-Err.ensures.none
+
+pub returns-in-Err-named_site : goal.returns-in-Err-named_site
+returns-in-Err-named_site g c =
+    serve_siteless (kinds_of g.D.Disk g.G.Gate g.N.Dialer g.C.Clock g.O.Sink g.G.Link.Link.tells g.N.Link.Link.tells) g.K.Known.book _ _ c.in-Some.command c.in-Serve.field-0
+    c.in-Serve.workers (objects_of c.args.disk c.args.gate.now c.args.crew.now.members.items c.args.out.now) c.named_site-in-Serve.new.out c.in-Err-named_site.status
+    (sym c.command_of.ensures.value ∙ c.in-Some.is) c.in-Serve.is c.in-Err-named_site.ensures.none
