@@ -11,7 +11,7 @@ use Rattle.warc_journal.specs.Extents.{warc_files}
 use Rattle.warc_journal.specs.Journals.{Rests}
 use Rattle.disk_model.proofs.MomentLaws.{goes_on, joined, none_added, now_has, weakened}
 use Rattle.checkpoint.specs.Checkpoints.{checkpoint_of}
-use Rattle.checkpoint.specs.Clearing.{AreCleared, Clears, HasCleared, IsBesideFrom, IsCleared, IsSealedCount}
+use Rattle.checkpoint.specs.Clearing.{AreCleared, Clears, ClearsUnsealed, HasCleared, IsBesideFrom, IsCleared, sealed_count}
 use Rattle.checkpoint.specs.Putting.{IsBeside, commit_byte}
 use Rattle.checkpoint.specs.steps.Texts.{HasText, PutsText}
 use Rattle.checkpoint.proofs.Missing.{missing_file}
@@ -138,7 +138,19 @@ module _ {D : Type 0} (d : Ghosts D) (first : ℕ) where
     made_none = clears.made_none ∙ ap (λ (i : Image). file_count i Cdxj) rests.read;
   }
 
-  pub cleared_by : {T E : Type 0} (result : Result T E) (old new : D) → IsSealedCount (warc_files (d.reading old)) first → Clears d first old new
-      → OnOk result (Leaves (d.images new) (AreCleared first)) → OnOk result (IsCleared d old new)
-  cleared_by (Ok done) old new is clears none = record { sealed = first; is = is; clears = clears; none = none }
-  cleared_by (Err fault) old new is clears none = tt
+  -- nothing was taken away
+  pub clears_resting : (old new : D) → Rests d old new → Clears d first old new
+  clears_resting old new rests = record {
+    leaves = weakened d.moment d.images_since old new (λ i. ⊥) (HasCleared first (d.images old)) (λ i none. absurd none) rests.leaves;
+    reading = subst (IsBesideFrom first (d.reading old)) (sym rests.read) (from_itself first (d.reading old));
+    made_none = ap (λ (i : Image). file_count i Cdxj) rests.read;
+  }
+
+module _ {D : Type 0} (d : Ghosts D) (first : ℕ) (old mid new : D) (is : first ≡ sealed_count (warc_files (d.reading old)))
+    (rests : Rests d old mid) (clears : Clears d first mid new) where
+  pub clears_unsealed : ClearsUnsealed d old new
+  clears_unsealed = subst (λ (k : ℕ). Clears d k old new) is (clears_after d first old mid new rests clears)
+
+  pub cleared_by : {T E : Type 0} (result : Result T E) → OnOk result (Leaves (d.images new) (AreCleared first)) → OnOk result (IsCleared d old new)
+  cleared_by (Ok done) none = record { clears = clears_unsealed; none = subst (λ (k : ℕ). Leaves (d.images new) (AreCleared k)) is none }
+  cleared_by (Err fault) none = tt

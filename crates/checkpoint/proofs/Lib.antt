@@ -5,6 +5,5 @@ pub mod LeftLaws
 pub mod Missing
 pub mod PuttingLaws
 pub mod ReadingLaws
-pub mod SealedLaws
 pub mod VolumeLaws
 pub mod WritingLaws

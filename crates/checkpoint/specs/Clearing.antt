@@ -1,15 +1,12 @@
 -- What is left on a disk when the checkpoints of volumes that aren't sealed are taken away.
-use Rattle.std.specs.Prelude.{◌≡◌, ◌⊎◌, ◌+◌, ◌-◌, ◌<◌, ◌≤◌, ℕ, List, [], length}
+use Rattle.std.specs.Prelude.{◌≡◌, ◌⊎◌, ◌-◌, ◌<◌, ◌≤◌, ℕ, List, [], length}
 use Rattle.capture.specs.Tails.{IsRest}
-use Rattle.capture.specs.declared.book.Book.{Book}
 use Rattle.disk_model.specs.Crash.{Leaves}
 use Rattle.disk_model.specs.Image.{Image, file_count}
 use Rattle.disk_model.specs.Moments.{AddsOnly}
 use Rattle.disk_model.specs.declared.disk.Disk.{Ghosts}
 use Rattle.disk_model.specs.declared.kind.Kind.TheVariants.{Cdxj}
 use Rattle.warc_journal.specs.Extents.{warc_files}
-use Rattle.warc_journal.specs.Journals.{Rests}
-use Rattle.warc_text.specs.StandsFor.{StandsFor}
 use Rattle.checkpoint.specs.Checkpoints.{checkpoint_of}
 use Rattle.checkpoint.specs.Putting.{commit_byte}
 
@@ -36,18 +33,15 @@ pub record Clears {D : Type 0} (d : Ghosts D) (first : ℕ) (old new : D) : Type
 abbrev pub AreCleared : ℕ → Image → Type 0
 AreCleared first image = (volume : ℕ) → first ≤ volume → checkpoint_of image volume ≡ []
 
--- how many of the first files are those of sealed volumes: where the files stand for a book, all its volumes but the last; in any case all files but two at least
-pub record IsSealedCount (files : List (List ℕ)) (sealed : ℕ) : Type 0 where
-  pub few : length files ≤ sealed + 2
-  pub of_book : (book : Book) → StandsFor files book → sealed ≡ length book.volumes - 1
+-- How many volumes are sealed, by their files alone: each that has another file behind it. What stands in that one doesn't matter.
+abbrev pub sealed_count : List (List ℕ) → ℕ
+sealed_count files = length files - 1
 
 -- the checkpoints of volumes that aren't sealed were taken away, and a crash leaves none of them
 pub record IsCleared {D : Type 0} (d : Ghosts D) (old new : D) : Type 0 where
-  pub sealed : ℕ
-  pub is : IsSealedCount (warc_files (d.reading old)) sealed
-  pub clears : Clears d sealed old new
-  pub none : Leaves (d.images new) (AreCleared sealed)
+  pub clears : Clears d (sealed_count (warc_files (d.reading old))) old new
+  pub none : Leaves (d.images new) (AreCleared (sealed_count (warc_files (d.reading old))))
 
--- some of them may have been taken away, or nothing was written
+-- some of them may have been taken away
 abbrev pub ClearsUnsealed : {D : Type 0} → Ghosts D → D → D → Type 0
-ClearsUnsealed d old new = ((sealed : ℕ) × IsSealedCount (warc_files (d.reading old)) sealed × Clears d sealed old new) ⊎ Rests d old new
+ClearsUnsealed d old new = Clears d (sealed_count (warc_files (d.reading old))) old new

@@ -10,7 +10,6 @@ mod lines;
 mod order;
 mod parse;
 mod reading;
-mod sealed;
 mod typed;
 mod writing;
 

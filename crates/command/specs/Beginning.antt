@@ -9,11 +9,12 @@ use Rattle.capture.specs.Faults.{Rose}
 use Rattle.capture.specs.declared.book.Book.{Book}
 use Rattle.cdxj_line.specs.declared.line.Line.{Line}
 use Rattle.checkpoint.specs.Checkpoints.{IsCheckpoint, checkpoint_of}
-use Rattle.checkpoint.specs.Clearing.{ClearsUnsealed, IsCleared}
+use Rattle.checkpoint.specs.Clearing.{ClearsUnsealed, IsCleared, sealed_count}
 use Rattle.checkpoint.specs.OfVolume.{AreLinesOf}
 use Rattle.disk_model.specs.Image.{Image}
 use Rattle.disk_model.specs.declared.disk.Disk.{Ghosts as Disks}
 use Rattle.outside.specs.declared.sink.Sink.{Ghosts as Sinks}
+use Rattle.warc_journal.specs.Extents.{warc_files}
 use Rattle.warc_text.specs.StandsFor.{IdsDifferIn}
 use Rattle.command.specs.Printing.{LacksMemory, Printed, Prints}
 use Rattle.command.specs.Texts.{IsFaultText}
@@ -45,12 +46,13 @@ pub record IsNotBegun {D O : Type 0} (disks : Disks D) (sinks : Sinks O) (was is
 
 -- ---- a book that is known
 
--- An image stands for this sound book, whose ids differ, and the finished checkpoints of its sealed volumes are those of it. What stands beside the last
--- volume, or of volumes that there are none of, isn't said.
+-- An image stands for this sound book, whose ids differ, and the finished checkpoints of volumes that have another file behind them are of its sealed
+-- volumes, and those of it. What stands beside the last file, or of volumes that there are none of, isn't said.
 pub record IsKeptFor (image : Image) (book : Book) : Type 0 where
   pub stands : ImageStandsFor image book
   pub ids : IdsDifferIn book
-  pub sealed : (k : ℕ) (lines : List Line) → k + 1 < length book.volumes → IsCheckpoint k lines (checkpoint_of image k) → AreLinesOf book k lines
+  pub sealed : (k : ℕ) (lines : List Line) → k < sealed_count (warc_files image) → IsCheckpoint k lines (checkpoint_of image k)
+      → (k + 1 < length book.volumes) × AreLinesOf book k lines
 
 -- an image is kept for a book for a command that stores, and settled for it for another one
 abbrev pub IsFitFor : Bool → Image → Book → Type 0
@@ -62,9 +64,13 @@ abbrev pub MayBegin : {D : Type 0} → Disks D → D → Option Book → Command
 MayBegin disks disk known command =
     IfSome known (λ book. IsTrue disks.tells → IsFitFor (is_some (asked_of command)) (disks.reading disk) book × IsAskedFor (asked_of command) book)
 
--- what may be opened of the disk that is begun with, at whatever moment, might have been before
+-- what may be opened where those checkpoints were taken away, all or some, at whatever moment, might have been before
 abbrev pub BeginningOpensNoMore : {D : Type 0} → Disks D → Type 0
-BeginningOpensNoMore {D} disks = (was begun : D) → IsTrue disks.tells → IsBegun disks was begun → OpensNoMore (crash_of disks was) (crash_of disks begun)
+BeginningOpensNoMore {D} disks = (was is : D) → IsTrue disks.tells → ClearsUnsealed disks was is → OpensNoMore (crash_of disks was) (crash_of disks is)
+
+-- and what is kept for a book stays kept for it
+abbrev pub BeginningKeepsTheBook : {D : Type 0} → Disks D → Type 0
+BeginningKeepsTheBook {D} disks = (was is : D) (book : Book) → ClearsUnsealed disks was is → IsKeptFor (disks.reading was) book → IsKeptFor (disks.reading is) book
 
 -- what is settled for a book is kept for it: so what a run leaves settled may be stored in by the next one
 abbrev pub SettledIsKept : Type 0

@@ -1,6 +1,6 @@
 //! What a command begins with.
 ghost use Rattle.std.specs.Prelude.{◌≡◌, IfErr, IfOk, IsTrue, OnOk};
-ghost use Rattle.command.specs.Beginning.{BeginningOpensNoMore, BeginsWith, IsBegun, IsNotBegun, SettledIsKept, stores};
+ghost use Rattle.command.specs.Beginning.{BeginningKeepsTheBook, BeginningOpensNoMore, BeginsWith, IsBegun, IsNotBegun, SettledIsKept, stores};
 ghost use Rattle.command.specs.Printing.{printed_as};
 ghost use Rattle.command.specs.Words as word;
 
@@ -51,8 +51,10 @@ fn cleared<D: Disk, O: Sink>(alloc: Global, disk: D, out: &mut O) -> Result<D, R
     }
 }
 
-/// What may be opened of the disk that a command begins with might have been opened before. What is settled for a book is kept for it.
+/// What may be opened of the disk that a command begins with, or failed to begin with, might have been opened before, and a book that it is kept for stays
+/// that. What is settled for a book is kept for it.
 pub fn beginning_keeps_what_is_known<D: Disk>()
     ensures opens { BeginningOpensNoMore D.Disk }
+    ensures stays { BeginningKeepsTheBook D.Disk }
     ensures kept { SettledIsKept }
 {}
