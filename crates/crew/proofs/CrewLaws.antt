@@ -17,7 +17,7 @@ use Rattle.command.specs.Gates.{GateTold}
 use Rattle.crew.specs.Shifts.{Hand, IsShift, WorksOn, hand_of, hands_of}
 use Rattle.crew.specs.steps.Working.{Desk, Door, Finishes, HasServed, HasWorked, HaveServed, HaveWorked, Rests, ServesNext, ServesOn, Takes, Works, all_ended, any_starved, hung_up, more_given, new_desk, setting_at}
 use Rattle.command.specs.declared.status.Status.TheVariants.{Memory}
-use Rattle.session.specs.Connection.{Setting}
+use Rattle.request_answer.specs.Gains.{Setting}
 
 -- ---- the first of a list
 

@@ -8,7 +8,7 @@ use Rattle.outside.specs.declared.gate.Heard.{Heard}
 use Rattle.crew.specs.Shifts.{AreShifts, Hand}
 use Rattle.command.specs.declared.status.Status.{Status}
 use Rattle.command.specs.declared.status.Status.TheVariants.{Done, Words, Archive, Outside, Memory}
-use Rattle.session.specs.Connection.{Setting}
+use Rattle.request_answer.specs.Gains.{Setting}
 
 -- Why no more connections were accepted, by the status that tells it: the gate, whose faults were counted before and now, is closed;
 -- it failed; or there was no memory.

@@ -7,8 +7,8 @@ use Rattle.outside.specs.declared.dialer.Dialer.{Ghosts as Dialers}
 use Rattle.outside.specs.declared.dialer.Transcript.{Transcript}
 use Rattle.outside.specs.declared.gate.Heard.{Heard}
 use Rattle.command.specs.Gates.{unheard}
-use Rattle.session.specs.Connection.{IsConnection, Setting}
-use Rattle.session.specs.Gains.{World}
+use Rattle.session.specs.Connection.{IsConnection}
+use Rattle.request_answer.specs.Gains.{Setting, World}
 use Rattle.session.specs.declared.served.Served.{Served}
 
 -- What a member of the crew works with: a shelf, what the dialer tells of its links and how often it failed, and the clock's answers.

@@ -59,10 +59,10 @@ use Rattle.importing.specs.declared.input.InputFault.TheVariants as input_fault
 use Rattle.command.specs.declared.status.Status.{Status}
 use Rattle.command.specs.declared.status.Status.TheVariants.{Done, Words, Archive, Outside, Memory}
 use Rattle.session.specs.Laws.{CoursesCountFaults, IdsDifferOnTheWay}
-use Rattle.session.specs.Rounds.{disk_faults}
+use Rattle.session.specs.Courses.{disk_faults}
 use Rattle.session.specs.declared.served.Served.{Served}
 use Rattle.session.specs.declared.served.Served.TheVariants as served
-use Rattle.session.specs.Traces.{terms_of}
+use Rattle.request_answer.specs.Traces.{terms_of}
 use Rattle.crew.specs.Crews.{IsEnd}
 use Rattle.proxy_run.specs.StopTexts.{TellsStop}
 use Rattle.warc_journal.specs.Extents.{cdxj_files, warc_files}

@@ -14,10 +14,11 @@ use Rattle.disk_model.specs.Image.{Image}
 use Rattle.disk_model.specs.declared.disk.Disk.{Ghosts as Disks}
 use Rattle.command.proofs.OpeningLaws.{ids_differ}
 use Rattle.session.proofs.ImageLaws.{opens_more}
-use Rattle.session.specs.Exchanges.{Exchange, Fails, IsReply, Passes}
-use Rattle.session.specs.Images.{HasAllIds, KeepsImages, OpensAtLast, OpensBehind, deed_of}
-use Rattle.session.specs.Rounds.{Exchanged, IsCourse, IsDecided, Outcome, Refused, Round, Undecided, Visited, disk_fault, disk_faults}
-use Rattle.session.specs.Traces.{StaysView, Terms, Traces, View, terms_of}
+use Rattle.request_answer.specs.Exchanges.{Exchange, Fails, IsReply, Passes}
+use Rattle.request_answer.specs.Images.{HasAllIds, KeepsImages, OpensAtLast, OpensBehind, deed_of}
+use Rattle.request_answer.specs.Rounds.{Exchanged, IsDecided, Outcome, Refused, Round, Undecided, Visited, disk_fault}
+use Rattle.session.specs.Courses.{IsCourse, disk_faults}
+use Rattle.request_answer.specs.Traces.{StaysView, Terms, Traces, View, terms_of}
 use Rattle.proxy_run.specs.Serving.{pipe_site}
 use Rattle.warc_journal.specs.Journals.{disk_of}
 

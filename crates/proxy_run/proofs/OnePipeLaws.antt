@@ -15,7 +15,7 @@ use Rattle.archive_reopening.specs.Known.{by_checkpoints, told_at}
 use Rattle.archive_shelf.specs.declared.depth.Depth.TheVariants.{Checkpoints}
 use Rattle.proxy_run.proofs.PipeLaws.{faults_before, faults_behind}
 use Rattle.proxy_run.proofs.StatusLaws.{memory_told, said_by}
-use Rattle.session.specs.Rounds.{IsCourse, is_closed}
+use Rattle.session.specs.Courses.{IsCourse, is_closed, lacks}
 use Rattle.std.specs.Prelude.{IfSome}
 use Rattle.std.proofs.lemmas.Bool.{false≢true}
 use Rattle.command.proofs.SettlingLaws.{ready_consistent, ready_in, ready_known, ready_limits, ready_none, ready_tells}
@@ -26,12 +26,11 @@ use Rattle.proxy_run.specs.Pipes.{Pipes}
 use Rattle.proxy_run.specs.Serving.{pipe_site, status_of}
 use Rattle.command.specs.Gates.{unheard}
 use Rattle.command.specs.declared.status.Status.{Status}
-use Rattle.session.specs.Gains.{gains_of}
+use Rattle.request_answer.specs.Gains.{gains_of}
 use Rattle.session.specs.OneCourse.{AreOneCourse, CoursesEndOneWay, CoursesLeaveNoChoice, WentWell}
-use Rattle.session.specs.Requests.{IsUndecided}
-use Rattle.session.specs.Rounds.{lacks}
+use Rattle.request_answer.specs.Requests.{IsUndecided}
 use Rattle.session.specs.Stopping.{Course, Ends}
-use Rattle.session.specs.Traces.{View, view_of, terms_of}
+use Rattle.request_answer.specs.Traces.{View, view_of, terms_of}
 use Rattle.session.specs.declared.served.Served.{Served}
 use Rattle.session.specs.declared.served.Served.TheVariants as served
 use Rattle.warc_journal.specs.Journals.{disk_of}

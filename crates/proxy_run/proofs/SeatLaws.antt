@@ -8,7 +8,7 @@ use Rattle.outside.specs.declared.dialer.Dialer.{Ghosts as Dialers}
 use Rattle.outside.specs.declared.gate.Heard.{Heard}
 use Rattle.crew.specs.Crews.{ServesAll}
 use Rattle.crew.specs.Shifts.{AreShifts, GoOn, Hand, IsShift, ServesThis, hand_of, hands_of}
-use Rattle.session.specs.Connection.{Setting}
+use Rattle.request_answer.specs.Gains.{Setting}
 
 -- the same hand, with its shelf in other words
 abbrev pub hand_as : {S T : Type 0} → (S → T) → Hand S → Hand T

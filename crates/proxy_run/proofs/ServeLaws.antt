@@ -57,9 +57,10 @@ use Rattle.crew.specs.Shifts.{AreShifts, Hand, IsShift, hand_of, hands_of}
 use Rattle.command.specs.Texts.{captures_line}
 use Rattle.command.specs.declared.status.Status.{Status}
 use Rattle.command.specs.declared.status.Status.TheVariants.{Done, Words, Archive, Outside, Memory}
-use Rattle.session.specs.Connection.{Setting}
+use Rattle.request_answer.specs.Gains.{Setting}
 use Rattle.session.specs.Laws.{CoursesCountFaults, CoursesGrow}
-use Rattle.session.specs.Rounds.{Round, disk_faults, is_closed, lacks, numbers_by}
+use Rattle.request_answer.specs.Rounds.{Round, numbers_by}
+use Rattle.session.specs.Courses.{disk_faults, is_closed, lacks}
 use Rattle.session.specs.Stopping.{Course, Ends, IsClosed, IsLeftOver}
 use Rattle.session.specs.declared.served.Served.{Served}
 use Rattle.session.specs.declared.served.Served.TheVariants as end

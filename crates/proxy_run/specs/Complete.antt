@@ -30,10 +30,10 @@ use Rattle.command.specs.declared.status.Status.{Status}
 use Rattle.command.specs.declared.status.Status.TheVariants.{Done, Memory}
 use Rattle.archive_pieces.specs.declared.fault.PieceFault.TheVariants as pieces
 use Rattle.command.specs.declared.words.Command.TheVariants.{Check, Follow, Import, Pipe}
-use Rattle.session.specs.Images.{HasAllIds, IsPassed}
+use Rattle.request_answer.specs.Images.{HasAllIds, IsPassed}
 use Rattle.session.specs.declared.served.Served.{Served}
 use Rattle.session.specs.declared.served.Served.TheVariants as served
-use Rattle.session.specs.Traces.{terms_of}
+use Rattle.request_answer.specs.Traces.{terms_of}
 use Rattle.proxy_run.specs.Serving.{pipe_site}
 use Rattle.warc_reader.specs.Records.{HasNoRecordAt}
 use Rattle.warc_text.specs.StandsFor.{IdsDifferIn}

@@ -16,8 +16,8 @@ use Rattle.command.specs.Settling.{ClosesSettled, OpensSettled}
 use Rattle.proxy_run.specs.Serving.{ServesOne, pipe_site}
 use Rattle.command.specs.declared.status.Status.{Status}
 use Rattle.command.specs.declared.status.Status.TheVariants.{Done, Memory, Outside}
-use Rattle.session.specs.Images.{HasAllIds, OpensAtLast}
-use Rattle.session.specs.Traces.{terms_of}
+use Rattle.request_answer.specs.Images.{HasAllIds, OpensAtLast}
+use Rattle.request_answer.specs.Traces.{terms_of}
 use Rattle.crew.specs.Crews.{IsEnd}
 use Rattle.warc_journal.specs.Journals.{disk_of}
 

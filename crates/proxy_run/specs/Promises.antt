@@ -25,9 +25,9 @@ use Rattle.command.specs.Texts.{captures_line}
 use Rattle.command.specs.declared.status.Status.{Status}
 use Rattle.command.specs.declared.status.Status.TheVariants.{Done, Memory, Outside}
 use Rattle.command.specs.declared.words.Command.TheVariants.{Serve}
-use Rattle.session.specs.Connection.{Setting}
-use Rattle.session.specs.Gains.{gains_of}
-use Rattle.session.specs.Rounds.{Round, disk_faults, is_closed, lacks}
+use Rattle.request_answer.specs.Gains.{Setting, gains_of}
+use Rattle.request_answer.specs.Rounds.{Round}
+use Rattle.session.specs.Courses.{disk_faults, is_closed, lacks}
 use Rattle.warc_text.specs.StandsFor.{IdsDifferIn}
 
 -- What the client gave was read to its end, or to the answer that closes, unless its link failed or memory ran out.

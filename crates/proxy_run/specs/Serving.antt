@@ -8,7 +8,8 @@ use Rattle.outside.specs.declared.gate.Heard.{Heard}
 use Rattle.command.specs.Objects.{Around}
 use Rattle.command.specs.declared.status.Status.{Status}
 use Rattle.command.specs.declared.status.Status.TheVariants.{Done, Outside, Memory}
-use Rattle.session.specs.Connection.{IsConnection, Setting}
+use Rattle.session.specs.Connection.{IsConnection}
+use Rattle.request_answer.specs.Gains.{Setting}
 use Rattle.session.specs.declared.served.Served.{Served}
 use Rattle.session.specs.declared.served.Served.TheVariants as served
 

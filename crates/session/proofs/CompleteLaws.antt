@@ -16,10 +16,10 @@ use Rattle.http_head.specs.declared.head.Received.{Received}
 use Rattle.outside.specs.declared.dialer.Transcript.{Transcript}
 use Rattle.http_wire.specs.Decisions.{ArrivalsAreOne}
 use Rattle.session.specs.Complete.{IsFaultless, GaveResponse, CanBePassedOn, GetsResponse, ResponsesArePassedOn}
-use Rattle.session.specs.Exchanges.{Exchange, Reply, Fails, Passes, IsReply}
-use Rattle.session.specs.Rounds.{Round, Outcome, Undecided, Exchanged, Visited, IsRound, IsDecided, IsTextOf, closes_outcome, origin_fault, disk_fault}
-use Rattle.session.specs.SiteAnswers.{SiteRequest, SiteReply, Refuses}
-use Rattle.session.specs.Traces.{Terms, Traces, CountsMet}
+use Rattle.request_answer.specs.Exchanges.{Exchange, Reply, Fails, Passes, IsReply}
+use Rattle.request_answer.specs.Rounds.{Round, Outcome, Undecided, Exchanged, Visited, IsRound, IsDecided, IsTextOf, closes_outcome, origin_fault, disk_fault}
+use Rattle.request_answer.specs.SiteAnswers.{SiteRequest, SiteReply, Refuses}
+use Rattle.request_answer.specs.Traces.{Terms, Traces, CountsMet}
 
 -- ---- faults
 

@@ -9,15 +9,16 @@ use Rattle.exchange.specs.Writing.{GrowsByProperFront}
 use Rattle.http_head.specs.declared.head.RequestHead.{RequestHead}
 use Rattle.outside.specs.Calls.{one_more}
 use Rattle.outside.specs.declared.gate.Heard.{Heard}
-use Rattle.session.specs.Connection.{IsConnection, Setting}
+use Rattle.session.specs.Connection.{IsConnection}
+use Rattle.request_answer.specs.Gains.{Setting, World, gains_of}
 use Rattle.session.specs.steps.Wire.{Says}
-use Rattle.session.specs.steps.Stages.{Stage, IsRemainder, IsStep, terms_at, closes}
-use Rattle.session.specs.Gains.{World, gains_of}
-use Rattle.session.specs.steps.Gaining.{gains_by}
-use Rattle.session.specs.Requests.{interim_of}
-use Rattle.session.specs.Rounds.{Round, Outcome, Refused, closes_outcome, course_text, course_wire, is_closed, lacks}
+use Rattle.session.specs.steps.Stages.{Stage, IsRemainder, IsStep, closes}
+use Rattle.request_answer.specs.steps.Making.{terms_at, gains_by}
+use Rattle.request_answer.specs.Requests.{interim_of}
+use Rattle.request_answer.specs.Rounds.{Round, Outcome, Refused, closes_outcome}
+use Rattle.session.specs.Courses.{course_text, course_wire, is_closed, lacks}
 use Rattle.session.specs.Stopping.{Course, Ends, IsClosed, IsCutInside, IsCutShort, IsLeftOver}
-use Rattle.session.specs.Traces.{terms_of}
+use Rattle.request_answer.specs.Traces.{terms_of}
 use Rattle.session.specs.declared.served.Served.{Served}
 use Rattle.session.specs.declared.served.Served.TheVariants.{Done, ClientBroke, ClientEndedEarly, ClientRefused, WantOfMemory}
 use Rattle.session.proofs.GainLaws.{behind_text, gained_both}

@@ -6,16 +6,16 @@ use Rattle.archive_shelf.specs.Laws.{BooksLeadToThemselves}
 use Rattle.capture.specs.declared.site.Site.{Site}
 use Rattle.outside.specs.Calls.{one_more}
 use Rattle.outside.specs.declared.gate.Heard.{Heard}
-use Rattle.session.specs.Connection.{Setting}
-use Rattle.session.specs.steps.Stages.{Gained, Stage, IsRemainder, terms_at, view_at, closes}
+use Rattle.request_answer.specs.Gains.{Setting, World, gains_of}
+use Rattle.session.specs.steps.Stages.{Stage, IsRemainder, closes}
+use Rattle.request_answer.specs.steps.Making.{Gained, terms_at, view_at, gains_by}
 use Rattle.session.specs.steps.Endings.{LastIsWhole, LastIsInPart, client_at, heard_now}
-use Rattle.session.specs.Gains.{World, gains_of}
-use Rattle.session.specs.steps.Gaining.{no_gains, gains_by}
+use Rattle.session.specs.steps.Gaining.{no_gains}
 use Rattle.session.specs.steps.Reads.{BreaksInside, MeetsEnd, MeetsNoMore}
-use Rattle.session.specs.Requests.{IsUndecided, interim_of}
-use Rattle.session.specs.Rounds.{Round}
+use Rattle.request_answer.specs.Requests.{IsUndecided, interim_of}
+use Rattle.request_answer.specs.Rounds.{Round}
 use Rattle.session.specs.Stopping.{Ends, IsLeftOver}
-use Rattle.session.specs.Traces.{Terms, View, LeadsView}
+use Rattle.request_answer.specs.Traces.{Terms, View, LeadsView}
 use Rattle.session.specs.declared.served.Served.{Served}
 use Rattle.session.specs.declared.served.Served.TheVariants.{Done, ClientBroke, ClientEndedEarly, ClientRefused, WantOfMemory}
 use Rattle.session.proofs.CourseLaws.{none_unrefused, or_true, part_behind}

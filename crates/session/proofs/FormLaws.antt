@@ -16,10 +16,10 @@ use Rattle.cdx_query.specs.declared.query.Query.{Query as CdxQuery}
 use Rattle.surt_key.specs.Key.{key_of}
 use Rattle.replay_url.proofs.OneForm.{one_form}
 use Rattle.session.specs.Complete.{IsFaultless, HasShown, HasWanted, IsAnswer, CapturesThatAreThereAreReplayed}
-use Rattle.session.specs.Requests.{closes_after}
-use Rattle.session.specs.Rounds.{Outcome, Visited, IsDecided, IsTextOf, closes_outcome, disk_fault}
-use Rattle.session.specs.SiteAnswers.{SiteRequest, SiteReply, Refuses, Redirects, Replays, Lists, Finds, Ships, HasNoMore, Asks, IsSoughtTime, IsSiteReply, serves_method}
-use Rattle.session.specs.Traces.{Terms, View, Traces, CountsMet}
+use Rattle.request_answer.specs.Requests.{closes_after}
+use Rattle.request_answer.specs.Rounds.{Outcome, Visited, IsDecided, IsTextOf, closes_outcome, disk_fault}
+use Rattle.request_answer.specs.SiteAnswers.{SiteRequest, SiteReply, Refuses, Redirects, Replays, Lists, Finds, Ships, HasNoMore, Asks, IsSoughtTime, IsSiteReply, serves_method}
+use Rattle.request_answer.specs.Traces.{Terms, View, Traces, CountsMet}
 use Rattle.session.proofs.CompleteLaws.{rose_not, text_by, told_not_untold}
 
 -- ---- an address with a form isn't refused

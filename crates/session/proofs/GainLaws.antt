@@ -1,6 +1,5 @@
 -- What is gained in one step after another.
-use Rattle.std.proofs.Common.{◌≡◌, ℕ, ◌+◌, ◌-◌, ◌^◌, ◌<◌, Bool, false, IsTrue, List, [], ◌++◌, length, refl, sym, ◌∙◌, ap, arith, append_assoc, length-append}
-use Rattle.std.proofs.lemmas.Bool.{false≢true}
+use Rattle.std.proofs.Common.{◌≡◌, ℕ, ◌+◌, ◌-◌, ◌^◌, ◌<◌, Bool, List, [], ◌++◌, length, sym, ◌∙◌, ap, arith, append_assoc, length-append}
 use Rattle.std.proofs.lemmas.List.{append-nil}
 use Rattle.archive_shelf.specs.Contents.{Contents}
 use Rattle.capture.specs.Faults.{RoseBy}
@@ -8,11 +7,10 @@ use Rattle.outside.specs.Records.{Links}
 use Rattle.outside.specs.declared.dialer.Transcript.{Transcript}
 use Rattle.outside.specs.declared.gate.Heard.{Heard}
 use Rattle.session.specs.steps.Endings.{heard_now}
-use Rattle.session.specs.Connection.{Setting}
-use Rattle.session.specs.steps.Stages.{Gained}
-use Rattle.session.specs.Gains.{World, Gains}
+use Rattle.request_answer.specs.Gains.{Setting, World, Gains}
+use Rattle.request_answer.specs.steps.Making.{Gained}
 use Rattle.session.specs.steps.Gaining.{no_gains, both_gains}
-use Rattle.session.specs.Traces.{CountsMet}
+use Rattle.request_answer.specs.Traces.{CountsMet}
 
 pub behind_text : (a b text more : List ℕ) → b ≡ a ++ text → b ++ more ≡ a ++ (text ++ more)
 behind_text a b text more e = ap (λ x. x ++ more) e ∙ append_assoc a text more
@@ -48,13 +46,6 @@ met_both a b x y z h k = record {
   rose = rose_both a b x y z h.rose k.rose;
   steady = λ e. k.steady (none_after a b e) ∙ h.steady (none_before a b e);
 }
-
-pub none_met : (x : ℕ) → CountsMet 0 x x
-none_met x = record { rose = omega arith; steady = λ _. refl }
-
--- memory sufficed
-pub sufficed : {P : Type 0} → IsTrue false → P
-sufficed lacking = absurd (false≢true lacking)
 
 stored_on : (a b c : Contents) (m n : List ℕ) → b ≡ record a { seen = b.seen; shown = b.shown; mine = a.mine ++ m }
     → c ≡ record b { seen = c.seen; shown = c.shown; mine = b.mine ++ n }

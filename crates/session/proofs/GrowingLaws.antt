@@ -13,11 +13,13 @@ use Rattle.capture.specs.declared.captured.Stored.{Stored}
 use Rattle.capture.specs.declared.refusal.Refusal.{Refusal}
 use Rattle.capture.specs.declared.refusal.Refusal.TheVariants.{Malformed, TargetRefused, BadTime, BadAcceptDatetime, BadQuery, NotAForm, NoCapture, NoSuch, MethodRefused, BodyTooLong, HeadTooLong, ClockRange, ConnectRefused, SecureRefused, CodingRefused, DialFault, OriginFault, OriginEnded, OriginMalformed, OriginTooLong, TooManyInterim, Full, DiskFault, Damaged}
 use Rattle.http_head.specs.declared.head.Received.{Received}
-use Rattle.session.specs.Exchanges.{Exchange, Fails, Passes, IsPassedOn, IsReply}
+use Rattle.request_answer.specs.Exchanges.{Exchange, Fails, Passes, IsPassedOn, IsReply}
 use Rattle.session.specs.Laws.{CoursesGrow, CoursesShowOn, CoursesCountFaults, CoursesStayConsistent, IdsDifferOnTheWay}
-use Rattle.session.specs.Rounds.{Round, Outcome, Undecided, Refused, Exchanged, Visited, IsDecided, origin_fault, origin_faults, disk_fault, disk_faults}
-use Rattle.session.proofs.GainLaws.{met_both, none_met}
-use Rattle.session.specs.Traces.{Terms, View, Traces, CountsMet, StaysView, LeadsView, IsConsistentView}
+use Rattle.request_answer.specs.Rounds.{Round, Outcome, Undecided, Refused, Exchanged, Visited, IsDecided, origin_fault, disk_fault}
+use Rattle.session.specs.Courses.{origin_faults, disk_faults}
+use Rattle.session.proofs.GainLaws.{met_both}
+use Rattle.request_answer.proofs.CountLaws.{none_met}
+use Rattle.request_answer.specs.Traces.{Terms, View, Traces, CountsMet, StaysView, LeadsView, IsConsistentView}
 
 -- what lower crates promise of books that grow
 pub record Growing : Type 0 where

@@ -6,9 +6,9 @@ use Rattle.archive_shelf.specs.Openings.{IsEarlier, LeavesNoMore}
 use Rattle.archive_shelf.specs.Told.{Told}
 use Rattle.capture.specs.declared.book.Book.{Book}
 use Rattle.warc_journal.specs.Extents.{cdxj_files}
-use Rattle.session.specs.Images.{Deed, NoDeed, Stores, IsDenied, deed_of, OpensBehind, OpensAtLast, KeepsImages}
-use Rattle.session.specs.Rounds.{Round}
-use Rattle.session.specs.Traces.{Terms, Traces}
+use Rattle.request_answer.specs.Images.{Deed, NoDeed, Stores, IsDenied, deed_of, OpensBehind, OpensAtLast, KeepsImages}
+use Rattle.request_answer.specs.Rounds.{Round}
+use Rattle.request_answer.specs.Traces.{Terms, Traces}
 
 up : (a b c : ℕ) → a ≤ b → b ≤ c → a ≤ c
 up a b c h k = omega (arith, h, k)

@@ -12,8 +12,7 @@ use Rattle.cdxj_index.specs.OfBook.{AreEntries}
 use Rattle.exchange.specs.Aim.{aim_of}
 use Rattle.exchange.specs.Refusals.{memory_text}
 use Rattle.exchange.specs.declared.aim.Aim.{Aim}
-use Rattle.exchange.specs.declared.aim.Aim.TheVariants.{Origin}
-use Rattle.exchange.specs.declared.aim.Aim.TheVariants.{Site as ToSite}
+use Rattle.exchange.specs.declared.aim.Aim.TheVariants.{Origin, Site as ToSite}
 use Rattle.exchange.specs.declared.aim.AimFault.{AimFault}
 use Rattle.exchange.specs.declared.aim.Target.{Target}
 use Rattle.http_head.specs.declared.head.RequestHead.{RequestHead}
@@ -22,20 +21,21 @@ use Rattle.http_wire.proofs.OneHead.{no_head_is_none}
 use Rattle.http_wire.specs.Messages.{IsRequest}
 use Rattle.outside.specs.declared.dialer.Transcript.{Transcript}
 use Rattle.outside.specs.declared.gate.Heard.{Heard}
-use Rattle.session.specs.Exchanges.{Exchange, Reply, Fails, IsReply}
-use Rattle.session.specs.Gains.{gains_of}
+use Rattle.request_answer.specs.Exchanges.{Exchange, Reply, Fails, IsReply}
+use Rattle.request_answer.specs.Gains.{gains_of}
 use Rattle.session.specs.OneCourse.{AreOneCourse, AreSameRounds, CoursesEndOneWay, CoursesLeaveNoChoice, IsSameRound, RoundWentWell, RoundsLeaveNoChoice, WentWell}
-use Rattle.session.specs.Requests.{IsAsked, IsInside, IsInterim, IsUndecided, closes_after, interim_of}
-use Rattle.session.specs.Rounds.{Round, Outcome, Undecided, Refused, Exchanged, Visited, IsCourse, IsDecided, IsRound, IsTextOf, closes_outcome, course_text, course_wire, disk_fault, disk_faults, is_closed, lacks, origin_fault, origin_faults}
-use Rattle.session.specs.SiteAnswers.{SiteRequest, SiteReply, IsSiteReply}
+use Rattle.request_answer.specs.Requests.{IsAsked, IsInside, IsInterim, IsUndecided, closes_after, interim_of}
+use Rattle.request_answer.specs.Rounds.{Round, Outcome, Undecided, Refused, Exchanged, Visited, IsDecided, IsRound, IsTextOf, closes_outcome, disk_fault, origin_fault}
+use Rattle.session.specs.Courses.{IsCourse, course_text, course_wire, disk_faults, is_closed, lacks, origin_faults}
+use Rattle.request_answer.specs.SiteAnswers.{SiteRequest, SiteReply, IsSiteReply}
 use Rattle.session.specs.Stopping.{Course, Ends, IsClosed, IsLeftOver}
-use Rattle.session.specs.Traces.{CountsMet, IsConsistentView, IsIdle, LeadsView, Terms, View}
-use Rattle.session.specs.steps.Exchanging.{is_cut_off, reply_text}
+use Rattle.request_answer.specs.Traces.{CountsMet, IsConsistentView, IsIdle, LeadsView, Terms, View}
+use Rattle.request_answer.specs.steps.Exchanging.{is_cut_off, reply_text}
 use Rattle.session.specs.declared.served.Served.{Served}
 use Rattle.session.specs.declared.served.Served.TheVariants.{Done, ClientBroke, ClientEndedEarly, ClientRefused, WantOfMemory}
 use Rattle.session.proofs.CompleteLaws.{text_by}
 use Rattle.session.proofs.CourseLaws.{EndsRefused, EndsUnrefused, first_same, no_last, refused_behind, rest_same}
-use Rattle.session.proofs.ExchangeLaws.{text_is_of}
+use Rattle.request_answer.proofs.ExchangeLaws.{text_is_of}
 use Rattle.session.proofs.GrowingLaws.{courses_count, decided_leaves, leads_consistent, leaves_consistent}
 use Rattle.session.proofs.OneRequest.{Cutting, SameAsked, SameRefused, asked_is_decided, asked_isnt_refused, interim_asked, interim_refused, one_asked, one_head, one_refused, refused_is_decided, told_interim}
 use Rattle.session.proofs.OneReply.{Answering, DialedAlike, SameReply, dialed_alike, none_is, one_reply}

@@ -29,9 +29,9 @@ use Rattle.http_wire.proofs.OneHead.{one_head as one_text, one_parse, one_skippe
 use Rattle.http_wire.specs.Decisions.{ArrivalsAreOne}
 use Rattle.http_wire.specs.Messages.{IsResponse}
 use Rattle.outside.specs.declared.dialer.Transcript.{Transcript}
-use Rattle.session.specs.Exchanges.{Exchange, Reply, Fails, Passes, Fetched, IsPassedOn, IsReply, taken_of}
-use Rattle.session.specs.Rounds.{disk_fault, Exchanged}
-use Rattle.session.specs.Traces.{StaysView, Terms, Traces}
+use Rattle.request_answer.specs.Exchanges.{Exchange, Reply, Fails, Passes, Fetched, IsPassedOn, IsReply, taken_of}
+use Rattle.request_answer.specs.Rounds.{disk_fault, Exchanged}
+use Rattle.request_answer.specs.Traces.{StaysView, Terms, Traces}
 use Rattle.session.proofs.CompleteLaws.{told_not_untold}
 use Rattle.session.proofs.OneRequest.{fields_once, version_once}
 use Rattle.time_text.specs.Texts.{InRange}

@@ -38,7 +38,7 @@ use Rattle.http_wire.proofs.OneHead.{no_head_is_none, no_head_in_more, one_skipp
 use Rattle.http_wire.specs.Decisions.{FirstsAreOne, MessagesStay, RefusalsStay}
 use Rattle.http_wire.specs.Heads.{BeginsWithRequest}
 use Rattle.http_wire.specs.Messages.{IsRequest}
-use Rattle.session.specs.Requests.{IsAsked, IsInterim, IsRefused, IsUndecided, interim_of, refusal_of}
+use Rattle.request_answer.specs.Requests.{IsAsked, IsInterim, IsRefused, IsUndecided, interim_of, refusal_of}
 use Rattle.session.proofs.AskedLaws.{refused_first, somewhere, stands_first}
 use Rattle.session.proofs.ReadLaws.{aims_nowhere, long_isnt_head, one_text}
 use Rattle.session.specs.steps.Reads.{IsAimed, IsAimedNowhere}

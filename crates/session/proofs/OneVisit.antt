@@ -55,9 +55,9 @@ use Rattle.time_text.specs.declared.TheConstants.{LATEST}
 use Rattle.time_text.specs.Reading.{IsHttpDate}
 use Rattle.warc_text.specs.Growth.{NumbersHaveOneGroup}
 use Rattle.warc_text.specs.Records.{info_text}
-use Rattle.session.specs.Rounds.{Visited, IsTextOf, disk_fault}
-use Rattle.session.specs.SiteAnswers.{SiteRequest, SiteReply, Refuses, Redirects, Replays, Lists, Finds, Ships, HasNoMore, Asks, IsSiteReply, IsSoughtTime, Reaches, Wants, serves_method}
-use Rattle.session.specs.Traces.{Terms, View}
+use Rattle.request_answer.specs.Rounds.{Visited, IsTextOf, disk_fault}
+use Rattle.request_answer.specs.SiteAnswers.{SiteRequest, SiteReply, Refuses, Redirects, Replays, Lists, Finds, Ships, HasNoMore, Asks, IsSiteReply, IsSoughtTime, Reaches, Wants, serves_method}
+use Rattle.request_answer.specs.Traces.{Terms, View}
 use Rattle.session.proofs.CompleteLaws.{told_not_untold}
 use Rattle.session.proofs.FormLaws.{dated, formed, timed, unserved}
 

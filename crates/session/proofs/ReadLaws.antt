@@ -4,7 +4,6 @@ use Rattle.std.proofs.Math.Seq.{drop-append_seam}
 use Rattle.httparse.proofs.GrammarLemmas.{request_unique}
 use Rattle.httparse.specs.Grammar.{RequestHead as GrammarHead, ReadsRequest}
 use Rattle.std.specs.Prelude.{IsSome, codes, IfOk, OnOk, IfErr, is_ok, ◌&&◌, if◌then◌else◌}
-use Rattle.capture.specs.Faults.{Rose}
 use Rattle.capture.specs.First.{Requests, Refused, NothingBegun, HeadNeeded, IsFirst, BehindHead, IsNoHead, BeginsBody}
 use Rattle.capture.specs.Head.{front_of}
 use Rattle.capture.specs.Head as head_front
@@ -28,17 +27,20 @@ use Rattle.http_head.specs.declared.head.WireFault.{WireFault}
 use Rattle.http_head.specs.declared.head.WireFault.TheVariants.{EndedEarly, Memory}
 use Rattle.http_wire.specs.Heads.{BeginsWithRequest, HoldsHead}
 use Rattle.http_wire.specs.Messages.{IsRequest}
-use Rattle.http_wire.specs.Reading.{Standing, Open, Failed, EndsInside}
-use Rattle.http_wire.specs.Reading.{IsUndecided as WireUndecided, LacksHead as WireLacksHead}
+use Rattle.http_wire.specs.Reading.{Standing, Open, Failed, EndsInside, IsUndecided as WireUndecided, LacksHead as WireLacksHead}
 use Rattle.outside.specs.declared.gate.Heard.{Heard}
-use Rattle.session.specs.steps.Reads.{Client, HasTaken, HasRead, AwaitsRest, ReadsNone, NoMore, Breaking, Refusing, GivingUp, Owes, ComesFaulty, IsBehind, IsWellAsked, LooksAt, ReadsBody, RefusesAim, IsAimed, IsAimedNowhere, answers_head}
-use Rattle.session.specs.Requests.{IsInside, IsInterim, IsRefused, IsUndecided, interim_of, refusal_of}
-use Rattle.session.specs.steps.Wire.{EndsRefusal, Says, Tries, Writes}
-use Rattle.session.specs.declared.reading.Asked.{Asked}
+use Rattle.session.specs.steps.Reads.{Client, HasTaken, HasRead, AwaitsRest, ReadsNone, NoMore, Breaking, Refusing, GivingUp, Owes, ComesFaulty, IsBehind, LooksAt, ReadsBody, RefusesAim, IsAimed, IsAimedNowhere, answers_head, Reads}
+use Rattle.request_answer.specs.steps.Answering.{IsWellAsked}
+use Rattle.request_answer.specs.Requests.{IsInside, IsInterim, IsRefused, IsUndecided, interim_of, refusal_of}
+use Rattle.request_answer.specs.steps.Wire.{Writes}
+use Rattle.session.specs.steps.Wire.{EndsRefusal, Says, Tries}
+use Rattle.request_answer.specs.declared.answering.Asked.{Asked}
 use Rattle.session.specs.declared.served.Served.{Served}
 use Rattle.session.specs.declared.served.Served.TheVariants.{Done, ClientBroke, ClientEndedEarly, WantOfMemory}
 use Rattle.session.proofs.SayLaws.{says_first, says_same}
 use Rattle.session.specs.steps.Heads.{waits_for_answer}
+use Rattle.outside.specs.Gate.{heard_of}
+use Rattle.outside.specs.Link.{Traffic}
 
 -- ---- fronts
 
@@ -496,10 +498,6 @@ begun_with_head stream standing (Some head) holds some between = nothing_isnt_he
 
 -- ---- what a call of a reader leaves
 
--- a count that rose isn't 0
-pub rose_above : (before now : ℕ) → Rose before now → now ≢ 0
-rose_above before now rose = λ e. let bad : ⊥ = omega (arith, rose, e) in bad
-
 -- a reader that is new holds no head
 pub none_new : (old new : Option RequestHead) → old ≡ None → new ≡ old → new ≡ None
 none_new old new e f = f ∙ e
@@ -537,3 +535,11 @@ behind stream old new standing (Err end) holds same is = tt
 pub well_asked : (site : Site) (asked : Asked) (head : RequestHead) → IsBehind head asked.message → aim_of site head.method head.target ≡ Ok asked.aim → HasShortHost asked.aim
     → IsWellAsked site asked
 well_asked site asked head h aimed short = record { stream = h.stream; request = h.request; aimed = h.same_aim site ∙ aimed; short = short }
+
+-- what is read of a client that tells the same is read of it
+pub reads_of_same : (site : Site) (pending : List ℕ) (was mid : Traffic) (before now : ℕ) (to : Client) (result : Result Asked Served)
+    → mid ≡ was → now ≡ before → Reads site (record { heard = heard_of mid now; pending = pending }) to result
+    → Reads site (record { heard = heard_of was before; pending = pending }) to result
+reads_of_same site pending was mid before now to result e d reads =
+    subst (λ (traffic : Traffic). Reads site (record { heard = heard_of traffic before; pending = pending }) to result) e
+    (subst (λ (n : ℕ). Reads site (record { heard = heard_of mid n; pending = pending }) to result) d reads)

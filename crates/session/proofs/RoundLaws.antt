@@ -4,12 +4,12 @@ use Rattle.archive_shelf.proofs.CallLaws.{shown_itself}
 use Rattle.archive_shelf.specs.Laws.{BooksLeadToThemselves}
 use Rattle.archive_shelf.specs.Told.{Told}
 use Rattle.capture.specs.declared.book.Book.{Book}
-use Rattle.session.specs.Connection.{Setting}
-use Rattle.session.specs.steps.Stages.{Gained, Stage, IsRemainder, IsMade, terms_at, view_at}
+use Rattle.request_answer.specs.Gains.{Setting, World, Gains}
+use Rattle.session.specs.steps.Stages.{Stage, IsRemainder}
+use Rattle.request_answer.specs.steps.Making.{Gained, IsMade, terms_at, view_at, gains_by}
 use Rattle.session.specs.steps.Endings.{client_at, heard_now}
-use Rattle.session.specs.Gains.{World, Gains}
-use Rattle.session.specs.steps.Gaining.{no_gains, gains_by}
-use Rattle.session.specs.Images.{Deed, NoDeed, deed_of, KeepsImages, OpensBehind}
+use Rattle.session.specs.steps.Gaining.{no_gains}
+use Rattle.request_answer.specs.Images.{Deed, NoDeed, deed_of, KeepsImages, OpensBehind}
 use Rattle.capture.specs.declared.refusal.Refusal.{Refusal}
 use Rattle.http_head.specs.declared.head.RequestHead.{RequestHead}
 use Rattle.exchange.specs.Refusals.{refusal_text, memory_text}
@@ -17,14 +17,15 @@ use Rattle.outside.specs.Calls.{one_more}
 use Rattle.outside.specs.declared.gate.Heard.{Heard}
 use Rattle.session.specs.steps.Reads.{Client, HasTaken, answers_head}
 use Rattle.session.specs.steps.Wire.{EndsRefusal, Tries}
-use Rattle.session.specs.Requests.{IsInterim, IsRefused}
-use Rattle.session.specs.Rounds.{Round, Undecided, Refused, IsRound, IsTextOf, is_from_shown}
-use Rattle.session.specs.Traces.{Terms, View, Traces}
+use Rattle.request_answer.specs.Requests.{IsInterim, IsRefused}
+use Rattle.request_answer.specs.Rounds.{Round, Undecided, Refused, IsRound, IsTextOf, is_from_shown}
+use Rattle.request_answer.specs.Traces.{Terms, View, Traces}
 use Rattle.session.specs.declared.served.Served.{Served}
 use Rattle.session.specs.declared.served.Served.TheVariants.{Done, ClientBroke, ClientEndedEarly, ClientRefused, WantOfMemory}
 use Rattle.session.proofs.CourseLaws.{part_behind}
 use Rattle.session.proofs.EndingLaws.{last_whole, last_part, view_itself}
-use Rattle.session.proofs.GainLaws.{gained_none, none_met, sufficed}
+use Rattle.session.proofs.GainLaws.{gained_none}
+use Rattle.request_answer.proofs.CountLaws.{none_met, sufficed}
 use Rattle.session.proofs.SayLaws.{says_itself, says_then}
 
 -- nothing was asked, and this is seen of the archive

@@ -4,7 +4,8 @@ use Rattle.std.proofs.lemmas.List.{append-nil}
 use Rattle.outside.specs.Gate.{heard_of}
 use Rattle.outside.specs.Link.{Traffic}
 use Rattle.outside.specs.declared.gate.Heard.{Heard}
-use Rattle.session.specs.steps.Wire.{Says, Writes}
+use Rattle.request_answer.specs.steps.Wire.{Writes}
+use Rattle.session.specs.steps.Wire.{Says}
 
 -- nothing was written
 pub says_itself : (x : Heard) → Says [] x x

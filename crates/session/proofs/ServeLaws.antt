@@ -8,15 +8,15 @@ use Rattle.exchange.specs.declared.aim.Aim.{Aim}
 use Rattle.http_head.specs.declared.head.RequestMessage.{RequestMessage}
 use Rattle.outside.specs.Calls.{one_more}
 use Rattle.outside.specs.declared.gate.Heard.{Heard}
-use Rattle.session.specs.steps.Answering.{Incoming, MakesRound, IsAnswered}
-use Rattle.session.specs.Connection.{Setting}
+use Rattle.request_answer.specs.steps.Answering.{Incoming, MakesRound, IsAnswered}
+use Rattle.request_answer.specs.Gains.{Setting, World}
 use Rattle.session.specs.steps.Stages.{Stage, IsRemainder, closes}
 use Rattle.session.specs.steps.Endings.{client_at, heard_now}
-use Rattle.session.specs.Gains.{World}
 use Rattle.session.specs.steps.Reads.{Client, HasRead, HasTaken, ReadsNone, NoMore, Breaking, Refusing, GivingUp}
-use Rattle.session.specs.Rounds.{Round}
-use Rattle.session.specs.steps.Wire.{Breaks, Tries, Writes}
-use Rattle.session.specs.steps.Givens.{Given}
+use Rattle.request_answer.specs.Rounds.{Round}
+use Rattle.request_answer.specs.steps.Wire.{Breaks, Writes}
+use Rattle.session.specs.steps.Wire.{Tries}
+use Rattle.request_answer.specs.steps.Givens.{Given}
 use Rattle.session.specs.declared.served.Served.{Served}
 use Rattle.session.specs.declared.served.Served.TheVariants.{Done, ClientBroke, WantOfMemory}
 use Rattle.session.proofs.CourseLaws.{none_unrefused, part_behind, then_on, unrefused_behind}

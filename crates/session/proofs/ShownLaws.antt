@@ -9,9 +9,10 @@ use Rattle.cdxj_index.specs.OfBook.{IsEntryOf}
 use Rattle.capture.specs.declared.refusal.Refusal.TheVariants.{NoSuch}
 use Rattle.archive_shelf.specs.Answers.{IsBrought}
 use Rattle.session.specs.Laws.{FoundCapturesAreReplayed, ShownNumbersAreThere}
-use Rattle.session.specs.Rounds.{Round, Outcome, IsCourse, IsDecided, Visited}
-use Rattle.session.specs.SiteAnswers.{Refuses, HasNoMore}
-use Rattle.session.specs.Traces.{Terms, View}
+use Rattle.request_answer.specs.Rounds.{Round, Outcome, IsDecided, Visited}
+use Rattle.session.specs.Courses.{IsCourse}
+use Rattle.request_answer.specs.SiteAnswers.{Refuses, HasNoMore}
+use Rattle.request_answer.specs.Traces.{Terms, View}
 use Rattle.session.proofs.GrowingLaws.{decided_leaves, leaves_shows}
 use Rattle.session.proofs.StayLaws.{IsIn, lawful_in, only_this}
 

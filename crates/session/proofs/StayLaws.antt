@@ -15,12 +15,13 @@ use Rattle.exchange.specs.declared.fetching.FetchFault.{FetchFault}
 use Rattle.exchange.specs.declared.fetching.FetchFault.TheVariants as fetch_fault
 use Rattle.http_head.specs.declared.head.Received.{Received}
 use Rattle.outside.specs.declared.dialer.Transcript.{Transcript}
-use Rattle.session.specs.Exchanges.{Exchange, Fails, Passes, Fetched, IsPassedOn, IsReply}
-use Rattle.session.specs.Gains.{gains_of}
+use Rattle.request_answer.specs.Exchanges.{Exchange, Fails, Passes, Fetched, IsPassedOn, IsReply}
+use Rattle.request_answer.specs.Gains.{gains_of}
 use Rattle.session.specs.Laws.{IsDialedFor, OriginsAloneAreDialed, OtherRoundsStoreNothing, PassedOnResponsesStay}
-use Rattle.session.specs.Requests.{IsAsked}
-use Rattle.session.specs.Rounds.{Round, Outcome, Undecided, Refused, Exchanged, Visited, IsCourse, IsDecided, IsRound}
-use Rattle.session.specs.Traces.{StaysView, Terms, Traces, View}
+use Rattle.request_answer.specs.Requests.{IsAsked}
+use Rattle.request_answer.specs.Rounds.{Round, Outcome, Undecided, Refused, Exchanged, Visited, IsDecided, IsRound}
+use Rattle.session.specs.Courses.{IsCourse}
+use Rattle.request_answer.specs.Traces.{StaysView, Terms, Traces, View}
 use Rattle.session.proofs.GrowingLaws.{Growing, courses_grow, failure_leaves}
 
 -- ---- a round of a course

@@ -17,11 +17,11 @@ use Rattle.http_head.specs.declared.head.RequestMessage.{RequestMessage}
 use Rattle.outside.specs.declared.dialer.Transcript.{Transcript}
 use Rattle.replay_url.specs.Questions.{Question, ForNearest, ForAll, ForQuery, ForNumber, ForPiece, question_of}
 use Rattle.replay_url.specs.declared.form.Form.{Form}
-use Rattle.session.specs.Exchanges.{Exchange, Reply, Passes, IsPassedOn}
-use Rattle.session.specs.Requests.{IsAsked, IsRefused, closes_after}
-use Rattle.session.specs.Rounds.{Round, Exchanged, Visited, IsRound, IsTextOf}
-use Rattle.session.specs.SiteAnswers.{SiteRequest, SiteReply, Refuses, Redirects, Replays, Lists, Finds, Ships, HasNoMore, Asks}
-use Rattle.session.specs.Traces.{Terms, View, Traces}
+use Rattle.request_answer.specs.Exchanges.{Exchange, Reply, Passes, IsPassedOn}
+use Rattle.request_answer.specs.Requests.{IsAsked, IsRefused, closes_after}
+use Rattle.request_answer.specs.Rounds.{Round, Exchanged, Visited, IsRound, IsTextOf}
+use Rattle.request_answer.specs.SiteAnswers.{SiteRequest, SiteReply, Refuses, Redirects, Replays, Lists, Finds, Ships, HasNoMore, Asks}
+use Rattle.request_answer.specs.Traces.{Terms, View, Traces}
 use Rattle.surt_key.specs.Key.{key_of}
 use Rattle.time_text.specs.Texts.{InRange}
 

@@ -1,18 +1,13 @@
 -- What one connection was.
 use Rattle.std.specs.Prelude.{◌≡◌, ℕ, ◌-◌, ◌^◌, ◌<◌, Bool, List, ◌++◌, length, IsTrue}
 use Rattle.std.specs.List.{flat_map}
-use Rattle.capture.specs.declared.site.Site.{Site}
-use Rattle.session.specs.Gains.{World}
-use Rattle.session.specs.Images.{KeepsImages}
-use Rattle.session.specs.Rounds.{Round, IsCourse, numbers_by}
+use Rattle.request_answer.specs.Gains.{World, Setting}
+use Rattle.request_answer.specs.Images.{KeepsImages}
+use Rattle.request_answer.specs.Rounds.{Round, numbers_by}
+use Rattle.session.specs.Courses.{IsCourse}
 use Rattle.session.specs.Stopping.{Ends}
-use Rattle.session.specs.Traces.{terms_of, view_of}
+use Rattle.request_answer.specs.Traces.{terms_of, view_of}
 use Rattle.session.specs.declared.served.Served.{Served}
-
--- the archive's site, and whether the clock tells its answers
-pub record Setting : Type 0 where
-  pub site : Site
-  pub clock_tells : Bool
 
 module _ (alone : Bool) (setting : Setting) where
   -- A connection: lawful rounds and a rest are what the client gave, and the answers are what was written to it. It begins with what was

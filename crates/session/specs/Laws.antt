@@ -1,31 +1,28 @@
 -- What lawful courses promise to those who build on them.
 use Rattle.std.specs.Prelude.{◌≡◌, ◌≢◌, ℕ, List, [], ◌∷◌, Contains, IsTrue, length, ⊤}
-use Rattle.archive_shelf.specs.Answers.{IsByRule, IsBrought}
+use Rattle.archive_shelf.specs.Answers.{IsBrought}
 use Rattle.archive_shelf.specs.Contents.{Begins}
 use Rattle.archive_shelf.specs.Openings.{HasIds}
-use Rattle.archive_shelf.specs.declared.receipt.Receipt.{Receipt}
-use Rattle.capture.specs.Captures.{captures, HasPayload, IsPayloadOf}
+use Rattle.capture.specs.Captures.{captures, IsPayloadOf}
 use Rattle.capture.specs.Growth.{Grows}
 use Rattle.capture.specs.Payload.{IsPayload}
-use Rattle.capture.specs.Soundness.{HasSoundCaptures}
-use Rattle.capture.specs.declared.book.Book.{Book}
-use Rattle.capture.specs.declared.captured.Taken.{Taken}
 use Rattle.capture.specs.declared.site.Site.{Site}
 use Rattle.exchange.specs.declared.aim.Aim.TheVariants.{Origin}
 use Rattle.http_head.specs.declared.head.Received.{Received}
 use Rattle.outside.specs.declared.dialer.Transcript.{Transcript}
-use Rattle.session.specs.Exchanges.{Exchange, Passes}
-use Rattle.session.specs.Gains.{gains_of}
-use Rattle.session.specs.Images.{HasAllIds}
-use Rattle.session.specs.Requests.{IsAsked}
-use Rattle.session.specs.Rounds.{Round, Exchanged, IsRound, IsCourse, origin_faults, disk_faults, Visited}
-use Rattle.session.specs.Traces.{Terms, View, CountsMet, IsConsistentView}
+use Rattle.request_answer.specs.Exchanges.{Exchange, Passes}
+use Rattle.request_answer.specs.Gains.{gains_of}
+use Rattle.request_answer.specs.Images.{HasAllIds}
+use Rattle.request_answer.specs.Requests.{IsAsked}
+use Rattle.request_answer.specs.Rounds.{Round, Exchanged, IsRound, Visited}
+use Rattle.session.specs.Courses.{IsCourse, origin_faults, disk_faults}
+use Rattle.request_answer.specs.Traces.{Terms, View, CountsMet, IsConsistentView}
 use Rattle.capture.specs.declared.captured.Brought.{Brought}
 use Rattle.capture.specs.declared.refusal.Refusal.TheVariants.{NoSuch}
 use Rattle.cdxj_index.specs.Facts.{Facts}
 use Rattle.cdxj_index.specs.OfBook.{IsEntryOf}
 use Rattle.replay_url.specs.Questions.{Nearest, ForNearest}
-use Rattle.session.specs.SiteAnswers.{SiteRequest, Refuses, HasNoMore, Reaches, Replays, IsSiteReply}
+use Rattle.request_answer.specs.SiteAnswers.{SiteRequest, Refuses, HasNoMore, Reaches, Replays, IsSiteReply}
 
 -- the book only grows, from round to round and over a course
 abbrev pub CoursesGrow : Type 0
@@ -63,14 +60,6 @@ CoursesCountFaults =
     (terms : Terms) (served : ℕ) (was : View) (rounds : List Round) (is : View)
     → IsCourse terms served was rounds is
     → CountsMet (origin_faults rounds) was.dialer_faults is.dialer_faults × CountsMet (disk_faults rounds) was.disk_faults is.disk_faults
-
--- A capture that was stored by the rule has its payload, by its number, in the book after it, which is sound: also where another
--- capture keeps it.
-abbrev pub StoredCapturesHaveTheirPayload : Type 0
-StoredCapturesHaveTheirPayload =
-    (limit : ℕ) (book : Book) (taken : Taken) (receipt : Receipt) (after : Book) (payload : List ℕ)
-    → IsByRule limit book taken receipt after → HasPayload taken.cut taken.method taken.head taken.wire payload
-    → HasSoundCaptures after → IsPayloadOf after (length (captures book)) payload
 
 -- ---- what a reader of a course may stop at
 

@@ -1,13 +1,7 @@
 pub mod Complete
 pub mod Connection
-pub mod Exchanges
-pub mod Gains
-pub mod Images
+pub mod Courses
 pub mod Laws
 pub mod OneCourse
-pub mod Requests
-pub mod Rounds
-pub mod SiteAnswers
 pub mod Stopping
-pub mod Traces
 pub mod steps

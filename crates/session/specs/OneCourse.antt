@@ -5,11 +5,12 @@ use Rattle.capture.specs.declared.book.Book.{Book}
 use Rattle.capture.specs.declared.site.Site.{Site}
 use Rattle.cdxj_index.specs.OfBook.{AreEntries}
 use Rattle.outside.specs.declared.gate.Heard.{Heard}
-use Rattle.session.specs.Gains.{gains_of}
-use Rattle.session.specs.Requests.{IsUndecided}
-use Rattle.session.specs.Rounds.{Round, IsCourse, IsRound, course_text, course_wire, disk_fault, lacks, is_closed}
+use Rattle.request_answer.specs.Gains.{gains_of}
+use Rattle.request_answer.specs.Requests.{IsUndecided}
+use Rattle.request_answer.specs.Rounds.{Round, IsRound, disk_fault}
+use Rattle.session.specs.Courses.{IsCourse, course_text, course_wire, lacks, is_closed}
 use Rattle.session.specs.Stopping.{Course, Ends}
-use Rattle.session.specs.Traces.{Terms, View, IsConsistentView}
+use Rattle.request_answer.specs.Traces.{Terms, View, IsConsistentView}
 use Rattle.session.specs.declared.served.Served.{Served}
 
 -- A lawful round, for which there was memory, and in which the disk didn't fail.

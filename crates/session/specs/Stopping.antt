@@ -8,8 +8,9 @@ use Rattle.outside.specs.Calls.{one_more}
 use Rattle.outside.specs.declared.gate.Heard.{Heard}
 use Rattle.http_head.specs.declared.head.RequestHead.{RequestHead}
 use Rattle.http_wire.specs.Heads.{BeginsWithRequest}
-use Rattle.session.specs.Requests.{IsInside, IsInterim, interim_of}
-use Rattle.session.specs.Rounds.{Round, Refused, course_text, is_closed, lacks}
+use Rattle.request_answer.specs.Requests.{IsInside, IsInterim, interim_of}
+use Rattle.request_answer.specs.Rounds.{Round, Refused}
+use Rattle.session.specs.Courses.{course_text, is_closed, lacks}
 use Rattle.session.specs.declared.served.Served.{Served}
 use Rattle.session.specs.declared.served.Served.TheVariants.{Done, ClientBroke, ClientEndedEarly, ClientRefused, WantOfMemory}
 

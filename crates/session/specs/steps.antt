@@ -1,13 +1,6 @@
-pub mod Answering
-pub mod Declining
 pub mod Endings
-pub mod Exchanging
-pub mod Fronts
 pub mod Gaining
-pub mod Givens
 pub mod Heads
-pub mod Looking
 pub mod Reads
-pub mod Shelving
 pub mod Stages
 pub mod Wire

@@ -3,16 +3,15 @@ ghost use Rattle.std.specs.Prelude.{◌≡◌, ◌<◌, ◌||◌, not, codes, ma
 ghost use Rattle.std.specs.List.{list_any};
 ghost use Rattle.std.specs.Str.{bytes_eq};
 ghost use Rattle.capture.specs.Fields.{lowered};
-ghost use Rattle.capture.specs.Methods.{asks_for_head as method_asks};
 ghost use Rattle.http_head.specs.Heads.{named_value};
 ghost use Rattle.message_body.specs.Framings.{members, told_by_request};
-ghost use Rattle.session.specs.Requests as spec;
+ghost use Rattle.request_answer.specs.Requests as spec;
 ghost use Rattle.session.specs.steps.Heads as steps;
 
-use crate::REQUEST_LIMIT;
 use capture::{BODY_LIMIT, Framing};
 use http_head::{Field, RequestHead, Version};
 use http_wire::{request_framing_of, split_member};
+use request_answer::REQUEST_LIMIT;
 
 /// Whether the connection closes after a request with this head, which is the next behind so many: HTTP/1.0 has one request a
 /// connection, a head may ask for it, and the last request that is served closes (RFC 9112, section 9.6).
@@ -90,13 +89,6 @@ fn is_expectation(field: &Field) -> bool
     ensures { result ≡ steps.is_expectation (named_value field.now) }
 {
     field.has_name(b"expect") && field.value.as_slice().eq_ignore_ascii_case(b"100-continue")
-}
-
-/// Whether a request is answered with a head alone (RFC 9110, section 9.3.2).
-pub fn asks_for_head(head: &RequestHead) -> bool
-    ensures { result ≡ method_asks head.now.method }
-{
-    head.method.as_slice() == b"HEAD".as_slice()
 }
 
 /// Whether a head that is aimed somewhere asks to be told that its body is awaited.

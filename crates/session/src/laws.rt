@@ -1,9 +1,7 @@
 //! What the definitions promise to those who build on them.
-ghost use Rattle.std.specs.Prelude.{◌≡◌};
 ghost use Rattle.session.specs.Complete.{CapturesThatAreThereAreReplayed, RequestsAreNotRefused, ResponsesArePassedOn};
-ghost use Rattle.session.specs.Laws.{CoursesGrow, CoursesShowOn, CoursesCountFaults, CoursesStayConsistent, FoundCapturesAreReplayed, IdsDifferOnTheWay, OriginsAloneAreDialed, OtherRoundsStoreNothing, PassedOnResponsesStay, ShownNumbersAreThere, StoredCapturesHaveTheirPayload};
+ghost use Rattle.session.specs.Laws.{CoursesGrow, CoursesShowOn, CoursesCountFaults, CoursesStayConsistent, FoundCapturesAreReplayed, IdsDifferOnTheWay, OriginsAloneAreDialed, OtherRoundsStoreNothing, PassedOnResponsesStay, ShownNumbersAreThere};
 ghost use Rattle.session.specs.OneCourse.{CoursesEndOneWay, CoursesLeaveNoChoice, RoundsLeaveNoChoice};
-ghost use Rattle.session.specs.declared.TheConstants.{REQUEST_LIMIT};
 
 use archive_shelf::{
     captures_are_stored_one_way, leading_books_grow, stored_captures_stand_behind,
@@ -50,15 +48,6 @@ pub fn shown_captures_stay()
     ensures there { ShownNumbersAreThere }
 {}
 
-/// A response that was passed on is the archive's last capture, with the payload of the bytes that came, where the book is sound.
-pub fn stored_captures_have_their_payload()
-    ensures { StoredCapturesHaveTheirPayload }
-{
-    stored_captures_stand_behind();
-    growth_keeps_captures();
-    captures_have_one_payload();
-}
-
 /// Where no count of faults rises and the disk is told, a response that came, whole or cut, with room for its capture is passed on,
 /// and a capture that is there, or one that is shown, is answered with, and so are queries and pieces. The answer's text was written, or
 /// memory ran out. Bytes that are a request which goes somewhere aren't refused for themselves.
@@ -91,8 +80,3 @@ pub fn courses_leave_no_choice()
     queries_have_one_answer();
     a_page_has_one_split();
 }
-
-/// What the limit is that the definitions speak of: the answer to the 1,000th request of a connection closes it.
-pub fn limits_are_these()
-    ensures { REQUEST_LIMIT ≡ 1000 }
-{}

@@ -14,27 +14,21 @@ ghost use Rattle.http_wire.specs.Messages.{IsRequest};
 ghost use Rattle.http_wire.specs.Reading.{Failed as HasFailed, Whole as IsWhole, ComesBeforeTheEnd, HasFault};
 ghost use Rattle.http_wire.specs.RequestReading.{new_request};
 ghost use Rattle.outside.specs.Gate.{heard_of};
-ghost use Rattle.session.specs.steps.Reads.{AwaitsRest, Client, ComesFaulty, HasTaken, IsBehind, IsWellAsked, LooksAt, Owes, Reads, ReadsBody, ReadsNone, RefusesAim};
+ghost use Rattle.session.specs.steps.Reads.{AwaitsRest, Client, ComesFaulty, HasTaken, IsBehind, LooksAt, Owes, Reads, ReadsBody, ReadsNone, RefusesAim};
+ghost use Rattle.request_answer.specs.steps.Answering.{IsWellAsked};
 ghost use Rattle.session.specs.steps.Reads as steps;
-ghost use Rattle.session.specs.steps.Wire.{Breaks, EndsRefusal, Tries, Writes};
+ghost use Rattle.request_answer.specs.steps.Wire.{Breaks, Writes};
+ghost use Rattle.session.specs.steps.Wire.{EndsRefusal, Tries};
 
 use crate::Served;
-use crate::heads::{asks_for_head, asks_to_go_on};
-use crate::saying::{give_up, say};
+use crate::giving_up::give_up;
+use crate::heads::asks_to_go_on;
 use capture::{Failed, Memory, Refusal, Site};
 use exchange::{Aim, AimFault, Came, Window, aim_of, receive_request, refusal_text};
 use http_wire::{RequestHead, RequestMessage, RequestReader, WireFault};
 use outside::Link;
+use request_answer::{Asked, asks_for_head, say};
 use std::alloc::Global;
-
-/// What a client asks.
-#[derive(Drop)]
-pub struct Asked {
-    /// Its request.
-    pub message: RequestMessage,
-    /// Where that goes.
-    pub aim: Aim,
-}
 
 /// Reads the next request of a client whose link is whole. Where the client waits for that, it is told that the body is awaited
 /// (RFC 9110, section 10.1.1). Bytes that are refused for themselves are answered; they, the client's end, a fault of its link and

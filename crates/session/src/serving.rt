@@ -6,14 +6,14 @@ ghost use Rattle.outside.specs.Gate.{heard_of};
 ghost use Rattle.session.specs.Connection.{IsConnection};
 
 use crate::Served;
-use crate::answering::{Ask, answer};
+use crate::giving_up::give_up;
 use crate::heads::closes_after;
 use crate::reading::read_request;
-use crate::saying::give_up;
 use archive_shelf::{Shelf, leading_books_grow};
 use capture::{Failed, Memory, Site};
 use exchange::Window;
 use outside::{Clock, Dialer, Link};
+use request_answer::{Ask, answer};
 use std::alloc::Global;
 
 /// Serves one connection over an archive: proxied exchanges, each stored before its response is passed on, and the archive's own

@@ -13,7 +13,7 @@ use Rattle.crew.specs.declared.member.Member.{Member}
 use Rattle.command.specs.Gates.{gate_told, GateTold}
 use Rattle.crew.specs.Shifts.{Hand, IsShift, ServesThis, WorksOn, hand_of}
 use Rattle.command.specs.declared.status.Status.{Status}
-use Rattle.session.specs.Connection.{Setting}
+use Rattle.request_answer.specs.Gains.{Setting}
 
 -- ---- the gate
 

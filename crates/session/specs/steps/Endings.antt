@@ -2,14 +2,14 @@
 use Rattle.std.specs.Prelude.{◌≡◌, ℕ, true, List, [], ◌∷◌, ◌++◌, Bool}
 use Rattle.exchange.specs.Receiving.{StaysAccounted}
 use Rattle.exchange.specs.Writing.{GrowsByProperFront}
-use Rattle.session.specs.Connection.{Setting}
-use Rattle.session.specs.steps.Stages.{Stage, IsMade, closes}
-use Rattle.session.specs.Gains.{World}
+use Rattle.request_answer.specs.Gains.{Setting, World}
+use Rattle.session.specs.steps.Stages.{Stage, closes}
+use Rattle.request_answer.specs.steps.Making.{IsMade}
 use Rattle.outside.specs.Calls.{one_more}
 use Rattle.outside.specs.declared.gate.Heard.{Heard}
 use Rattle.session.specs.steps.Reads.{Client}
 use Rattle.session.specs.steps.Wire.{Says}
-use Rattle.session.specs.Rounds.{Round}
+use Rattle.request_answer.specs.Rounds.{Round}
 use Rattle.session.specs.Stopping.{Ends, IsClosed, IsCutShort}
 use Rattle.session.specs.declared.served.Served.{Served}
 

@@ -1,7 +1,6 @@
 -- What is gained in one step after another.
 use Rattle.std.specs.Prelude.{[], ◌++◌}
-use Rattle.session.specs.Gains.{Gains}
-use Rattle.session.specs.Rounds.{Round, numbers_by}
+use Rattle.request_answer.specs.Gains.{Gains}
 
 -- nothing was gained
 abbrev pub no_gains : Gains
@@ -13,12 +12,4 @@ both_gains first second = record {
   times = first.times ++ second.times;
   transcripts = first.transcripts ++ second.transcripts;
   numbers = first.numbers ++ second.numbers;
-}
-
--- what a round gained
-abbrev pub gains_by : Round → Gains
-gains_by r = record {
-  times = r.traces.times;
-  transcripts = r.traces.transcripts;
-  numbers = numbers_by r.outcome r.traces.before;
 }

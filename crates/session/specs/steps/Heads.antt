@@ -7,7 +7,7 @@ use Rattle.exchange.specs.Texts.{connection}
 use Rattle.http_head.specs.Heads.{named_value}
 use Rattle.http_head.specs.declared.head.RequestHead.{RequestHead}
 use Rattle.message_body.specs.Framings.{members, told_by_request}
-use Rattle.session.specs.Requests.{is_persistent, tells_body}
+use Rattle.request_answer.specs.Requests.{is_persistent, tells_body}
 
 -- the client waits for an answer before it sends the body
 abbrev pub is_expectation : NamedValue → Bool

@@ -7,7 +7,7 @@ use Rattle.capture.specs.declared.site.Site.{Site}
 use Rattle.capture.specs.First.{Requests, NothingBegun, IsFirst}
 use Rattle.exchange.specs.Receiving.{BeginsAccounted, StaysAccounted}
 use Rattle.exchange.specs.Refusals.{refusal_text, memory_text}
-use Rattle.exchange.specs.Aim.{HasShortHost, aim_of}
+use Rattle.exchange.specs.Aim.{aim_of}
 use Rattle.exchange.specs.declared.aim.Aim.{Aim}
 use Rattle.exchange.specs.declared.aim.AimFault.{AimFault}
 use Rattle.exchange.specs.declared.aim.AimFault.TheVariants as aim_fault
@@ -16,9 +16,10 @@ use Rattle.http_head.specs.declared.head.RequestMessage.{RequestMessage}
 use Rattle.http_wire.specs.Heads.{BeginsWithRequest}
 use Rattle.http_wire.specs.Messages.{IsRequest}
 use Rattle.outside.specs.declared.gate.Heard.{Heard}
-use Rattle.session.specs.Requests.{IsAsked, IsInside, IsInterim, IsRefused, IsUndecided, interim_of}
-use Rattle.session.specs.steps.Wire.{Breaks, EndsRefusal, Says, Tries, Writes}
-use Rattle.session.specs.declared.reading.Asked.{Asked}
+use Rattle.request_answer.specs.Requests.{IsAsked, IsInside, IsInterim, IsRefused, IsUndecided, interim_of}
+use Rattle.request_answer.specs.steps.Wire.{Breaks, Writes}
+use Rattle.session.specs.steps.Wire.{EndsRefusal, Says, Tries}
+use Rattle.request_answer.specs.declared.answering.Asked.{Asked}
 use Rattle.session.specs.declared.served.Served.{Served}
 use Rattle.session.specs.declared.served.Served.TheVariants.{Done, ClientBroke, ClientEndedEarly, ClientRefused, WantOfMemory}
 
@@ -154,13 +155,6 @@ RefusesAim aim_fault.ConnectRefused answers_head then now end = EndsRefusal Conn
 RefusesAim aim_fault.SecureRefused answers_head then now end = EndsRefusal SecureRefused (refusal_text SecureRefused answers_head true) then now end
 RefusesAim aim_fault.TargetRefused answers_head then now end = EndsRefusal TargetRefused (refusal_text TargetRefused answers_head true) then now end
 RefusesAim aim_fault.Memory answers_head then now end = Tries memory_text then now × (end ≡ WantOfMemory)
-
--- Whatever the link tells, what is asked is one request that was read, and it goes there; the host of an origin is short.
-pub record IsWellAsked (site : Site) (asked : Asked) : Type 0 where
-  pub stream : List ℕ
-  pub request : IsRequest stream asked.message
-  pub aimed : aim_of site asked.message.head.method asked.message.head.target ≡ Ok asked.aim
-  pub short : HasShortHost asked.aim
 
 -- the request is one that was read, and goes where this head goes
 pub record IsBehind (head : RequestHead) (message : RequestMessage) : Type 0 where

@@ -6,7 +6,7 @@ use Rattle.archive_shelf.specs.Told.{GoesOn}
 use Rattle.command.specs.Objects.{told_around}
 use Rattle.crew.specs.Crews.{IsEnd}
 use Rattle.proxy_run.specs.Serving.{ServesOne, pipe_site}
-use Rattle.session.specs.Connection.{Setting}
+use Rattle.request_answer.specs.Gains.{Setting}
 use Rattle.proxy_run.proofs.serving.serve_watched.Goals as goal
 
 pub over-watched-requires : goal.over-watched-requires

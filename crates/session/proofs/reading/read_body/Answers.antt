@@ -1,7 +1,8 @@
 -- What came of a request's body.
 use Rattle.std.proofs.Common.{◌∙◌, refl}
 use Rattle.outside.specs.Gate.{heard_of}
-use Rattle.session.proofs.ReadLaws.{behind, body_broke, ended_behind_head, faulty_behind, held_begins, rose_above, still_owed, taken_whole}
+use Rattle.session.proofs.ReadLaws.{behind, body_broke, ended_behind_head, faulty_behind, held_begins, still_owed, taken_whole}
+use Rattle.request_answer.proofs.WireLaws.{rose_above}
 use Rattle.session.proofs.SayLaws.{nothing_said}
 use Rattle.session.proofs.reading.read_body.Goals as goal
 

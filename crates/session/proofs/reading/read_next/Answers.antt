@@ -1,7 +1,8 @@
 -- What came of a client's link.
 use Rattle.std.proofs.Common.{◌∙◌}
 use Rattle.outside.specs.Gate.{heard_of}
-use Rattle.session.proofs.ReadLaws.{broke_without, ended_before_head, ended_between, faulty_first, held_lacks, open_is_whole, read_first, rose_above}
+use Rattle.session.proofs.ReadLaws.{broke_without, ended_before_head, ended_between, faulty_first, held_lacks, open_is_whole, read_first}
+use Rattle.request_answer.proofs.WireLaws.{rose_above}
 use Rattle.session.proofs.SayLaws.{nothing_said}
 use Rattle.session.proofs.reading.read_next.Goals as goal
 

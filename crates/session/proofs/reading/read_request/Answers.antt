@@ -1,6 +1,6 @@
 -- The word that a request is awaited changes nothing of what the client's link tells.
 use Rattle.outside.specs.Gate.{heard_of}
-use Rattle.session.proofs.WireLaws.{reads_of_same}
+use Rattle.session.proofs.ReadLaws.{reads_of_same}
 use Rattle.session.proofs.reading.read_request.Goals as goal
 
 pub returns-clause-reads : goal.returns-clause-reads

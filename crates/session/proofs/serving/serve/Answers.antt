@@ -2,7 +2,7 @@
 use Rattle.std.proofs.Common.{[], refl, sym, ◌∙◌, arith, lit<}
 use Rattle.archive_shelf.proofs.CallLaws.{goes_on_both, goes_on_itself}
 use Rattle.outside.specs.Gate.{heard_of}
-use Rattle.session.specs.declared.TheConstants.{REQUEST_LIMIT}
+use Rattle.request_answer.specs.declared.TheConstants.{REQUEST_LIMIT}
 use Rattle.session.proofs.CourseLaws.{whole_connection}
 use Rattle.session.proofs.RoundLaws.{gave_up_at_once}
 use Rattle.session.proofs.ServeLaws.{answer_broke, answer_closed, answer_lacked, answer_said, reading_ends, still_fewer}

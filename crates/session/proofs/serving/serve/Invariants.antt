@@ -7,7 +7,7 @@ use Rattle.outside.specs.declared.dialer.Transcript.{Transcript}
 use Rattle.outside.specs.declared.gate.Heard.{Heard}
 use Rattle.session.specs.Connection.{IsConnection}
 use Rattle.session.specs.steps.Stages.{IsRemainder}
-use Rattle.session.specs.declared.TheConstants.{REQUEST_LIMIT}
+use Rattle.request_answer.specs.declared.TheConstants.{REQUEST_LIMIT}
 use Rattle.session.specs.declared.served.Served.{Served}
 use Rattle.session.proofs.serving.serve.Given as goal
 

@@ -1,0 +1,7 @@
+-- What a look by date tells.
+use Rattle.request_answer.proofs.LookLaws.{nearest_found}
+use Rattle.request_answer.proofs.seeking.seek.Goals as goal
+
+pub returns-clause-found : goal.returns-clause-found
+returns-clause-found g c =
+    nearest_found g.S.Finder.alone (g.S.Finder.told c.by_date.new.self).contents c.args.of.now.url c.args.of.now.key c.args.time c.by_date.result c.requires.keyed c.by_date.ensures.found c.by_date.ensures.knows

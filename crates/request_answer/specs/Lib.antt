@@ -1,0 +1,9 @@
+pub mod Exchanges
+pub mod Gains
+pub mod Images
+pub mod Laws
+pub mod Requests
+pub mod Rounds
+pub mod SiteAnswers
+pub mod Traces
+pub mod steps

@@ -1,0 +1,9 @@
+pub mod Answering
+pub mod Declining
+pub mod Exchanging
+pub mod Fronts
+pub mod Givens
+pub mod Looking
+pub mod Making
+pub mod Shelving
+pub mod Wire

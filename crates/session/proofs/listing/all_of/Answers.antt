@@ -1,7 +1,0 @@
--- What a look for all entries of a key tells.
-use Rattle.session.proofs.LookLaws.{all_found}
-use Rattle.session.proofs.listing.all_of.Goals as goal
-
-pub returns-clause-found : goal.returns-clause-found
-returns-clause-found g c =
-    all_found g.S.Finder.alone (g.S.Finder.told c.map.new.self).contents c.args.of.now.url c.args.of.now.key (λ entries. entries.items) c.map.result c.requires.keyed c.map.ensures.found c.map.ensures.knows

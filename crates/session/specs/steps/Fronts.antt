@@ -1,8 +1,0 @@
--- What the text of an answer is, or the head of a long one, by where it lies.
-use Rattle.std.specs.Prelude.{ℕ, List}
-use Rattle.session.specs.declared.answer.Front.{Front}
-use Rattle.session.specs.declared.answer.Front.TheVariants.{Made, Refusing}
-
-abbrev pub front_text : Front → List ℕ
-front_text (Made text) = text
-front_text (Refusing text) = text
