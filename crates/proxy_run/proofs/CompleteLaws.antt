@@ -46,7 +46,7 @@ use Rattle.command.specs.Objects.{Kinds, Objects, UsesFirst, objects_of, with_on
 use Rattle.proxy_run.specs.Pipes.{HasServed, Pipes, Refuses, around_in}
 use Rattle.command.specs.Printing.{LacksMemory, Prints, printed_as}
 use Rattle.proxy_run.specs.Checks.{IsCounted}
-use Rattle.proxy_run.specs.Follows.{Follows}
+use Rattle.following.specs.Follows.{Follows}
 use Rattle.proxy_run.specs.Serving.{status_of, pipe_site}
 use Rattle.replica.specs.Sources.{source_of}
 use Rattle.command.specs.Texts.{IsFaultText, captures_line}
@@ -64,7 +64,7 @@ use Rattle.session.specs.declared.served.Served.{Served}
 use Rattle.session.specs.declared.served.Served.TheVariants as served
 use Rattle.request_answer.specs.Traces.{terms_of}
 use Rattle.crew.specs.Crews.{IsEnd}
-use Rattle.proxy_run.specs.StopTexts.{TellsStop}
+use Rattle.following.specs.StopTexts.{TellsStop}
 use Rattle.warc_journal.specs.Extents.{cdxj_files, warc_files}
 use Rattle.warc_journal.specs.Journals.{disk_of}
 use Rattle.warc_text.specs.Sound.{IsSound}

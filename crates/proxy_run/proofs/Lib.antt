@@ -1,17 +1,13 @@
 mod CheckLaws
 mod CompleteLaws
 mod ConnectionLaws
-mod FollowsLaws
 mod NextLaws
 mod OnePipeLaws
 mod PipeLaws
 mod RunLaws
-mod SameVerdicts
 mod SeatLaws
 mod ServeLaws
-mod SoundVolumes
 mod StaffLaws
 mod StatusLaws
 mod VaultSeats
 mod VerifiedLaws
-mod VerifyLaws

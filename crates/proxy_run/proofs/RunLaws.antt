@@ -4,7 +4,7 @@ use Rattle.archive_shelf.specs.declared.depth.Depth.TheVariants.{Whole}
 use Rattle.capture.specs.declared.book.Book.{Book}
 use Rattle.capture.specs.declared.site.Site.{Site}
 use Rattle.proxy_run.specs.Checks.{IsCounted}
-use Rattle.proxy_run.specs.Follows.{Follows}
+use Rattle.following.specs.Follows.{Follows}
 use Rattle.importing.specs.Imports.{Imports}
 use Rattle.archive_reopening.specs.Known.{Opening, by_checkpoints, opening_of}
 use Rattle.command.specs.Objects.{Kinds, Objects, objects_of, with_one}
@@ -14,7 +14,7 @@ use Rattle.command.specs.Printing.{Prints, printed_as}
 use Rattle.proxy_run.specs.Runs.{NamesNone, Runs}
 use Rattle.command.specs.Texts.{usage}
 use Rattle.load_trial.specs.Trials.{Tries}
-use Rattle.proxy_run.specs.Verifies.{IsVerified}
+use Rattle.verifying.specs.Verifies.{IsVerified}
 use Rattle.command.specs.Words.{asked_of}
 use Rattle.command.specs.declared.status.Status.{Status}
 use Rattle.command.specs.declared.status.Status.TheVariants.{Memory, Words}

@@ -8,7 +8,6 @@ use Rattle.archive_reopening.specs.Known.{by_checkpoints}
 use Rattle.command.proofs.OpeningLaws.{opened_stands}
 use Rattle.command.proofs.SettlingLaws.{told_tells}
 use Rattle.proxy_run.proofs.CompleteLaws.{not_risen, printed_or_lacked, refused_known, refused_unsettled}
-use Rattle.proxy_run.proofs.SoundVolumes.{sound_volumes_verify}
 use Rattle.archive_shelf.specs.Openings.{ImageStandsFor}
 use Rattle.proxy_run.specs.Complete.{NoFaults}
 use Rattle.command.specs.Objects.{Kinds, Objects}
@@ -16,11 +15,12 @@ use Rattle.command.specs.Printing.{printed_as}
 use Rattle.archive_shelf.specs.declared.depth.Depth.TheVariants.{Checkpoints}
 use Rattle.proxy_run.specs.Pipes.{Refuses}
 use Rattle.proxy_run.specs.Verified.{IsSureOf, VerifiesAreAnswered}
-use Rattle.proxy_run.specs.Verifies.{Checked, ChecksVolumes, IsVerified, lines_of}
+use Rattle.verifying.specs.Verified.{SoundVolumesVerify}
+use Rattle.verifying.specs.Verifies.{Checked, ChecksVolumes, IsVerified, lines_of}
 use Rattle.command.specs.declared.status.Status.{Status}
 use Rattle.command.specs.declared.status.Status.TheVariants.{Archive, Done, Memory}
 
-module _ {D G L P N M C O : Type 0} (kinds : Kinds D G L P N M C O) where
+module _ {D G L P N M C O : Type 0} (kinds : Kinds D G L P N M C O) (sound_volumes_verify : SoundVolumesVerify) where
   checks_answered : (was is : Objects D G (List (N × C)) O) (status : Status) (book : Book) → IsTrue kinds.disks.tells → NoFaults kinds was is
       → ImageStandsFor (kinds.disks.reading was.disk) book
       → ChecksVolumes kinds.disks kinds.sinks book.namespace (facts_of book) was.disk is.disk was.out is.out status

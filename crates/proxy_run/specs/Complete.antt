@@ -18,7 +18,7 @@ use Rattle.disk_model.specs.Crash.{Leaves}
 use Rattle.disk_model.specs.Image.{Image}
 use Rattle.command.specs.Objects.{Kinds, Objects, UsesFirst, objects_of, with_one}
 use Rattle.importing.specs.Imports.{Imports}
-use Rattle.proxy_run.specs.Follows.{Follows}
+use Rattle.following.specs.Follows.{Follows}
 use Rattle.proxy_run.specs.Pipes.{HasServed, Pipes}
 use Rattle.proxy_run.specs.Runs.{Runs}
 use Rattle.replica.specs.declared.asking.SourceFault.TheVariants as sources

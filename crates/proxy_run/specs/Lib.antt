@@ -1,6 +1,5 @@
 pub mod Checks
 pub mod Complete
-pub mod Follows
 pub mod OnePipe
 pub mod Pipes
 pub mod Promises
@@ -9,6 +8,4 @@ pub mod Serves
 pub mod Serving
 pub mod Staffing
 pub mod steps
-pub mod StopTexts
 pub mod Verified
-pub mod Verifies

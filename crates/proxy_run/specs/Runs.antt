@@ -5,7 +5,7 @@ use Rattle.capture.specs.declared.book.Book.{Book}
 use Rattle.capture.specs.declared.site.Site.{Site}
 use Rattle.outside.specs.declared.sink.Sink.{Ghosts as Sinks}
 use Rattle.proxy_run.specs.Checks.{IsCounted}
-use Rattle.proxy_run.specs.Follows.{Follows}
+use Rattle.following.specs.Follows.{Follows}
 use Rattle.importing.specs.Imports.{Imports}
 use Rattle.archive_reopening.specs.Known.{by_checkpoints}
 use Rattle.command.specs.Beginning.{BeginsWith, IsNotBegun, stores}
@@ -16,7 +16,7 @@ use Rattle.proxy_run.specs.Serves.{LacksShelves, Serves}
 use Rattle.proxy_run.specs.Staffing.{HasThreads, LacksThreads}
 use Rattle.command.specs.Texts.{usage}
 use Rattle.load_trial.specs.Trials.{IsTried}
-use Rattle.proxy_run.specs.Verifies.{IsVerified}
+use Rattle.verifying.specs.Verifies.{IsVerified}
 use Rattle.command.specs.declared.status.Status.{Status}
 use Rattle.command.specs.declared.status.Status.TheVariants as status
 use Rattle.command.specs.declared.words.Command.{Command}

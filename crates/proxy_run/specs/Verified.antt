@@ -1,38 +1,17 @@
--- What `verify` tells of an archive whose bytes are what was written.
-use Rattle.std.specs.Prelude.{◌≡◌, ◌⊎◌, ℕ, false, List, length, map, All, IsTrue, Some, None, Option}
-use Rattle.std.specs.List.{list_any}
+-- When `verify` finds each volume of an archive sound.
+use Rattle.std.specs.Prelude.{◌≡◌, ◌⊎◌, ℕ, List, IsTrue, Some, None, Option}
 use Rattle.archive_reopening.specs.Known.{told_at}
-use Rattle.archive_opening.specs.Counting.{HasCountsOf}
 use Rattle.archive_opening.specs.Telling.{IsReadWhole}
-use Rattle.archive_shelf.specs.Openings.{ImageStandsFor}
 use Rattle.archive_shelf.specs.declared.depth.Depth.TheVariants.{Checkpoints}
-use Rattle.archive_volumes.specs.Facts.{facts_of}
 use Rattle.capture.specs.declared.book.Book.{Book}
 use Rattle.capture.specs.declared.site.Site.{Site}
-use Rattle.disk_model.specs.Image.{Image}
 use Rattle.disk_model.specs.declared.disk.Disk.{Ghosts as Disks}
 use Rattle.proxy_run.specs.Complete.{IsReady, NoFaults}
 use Rattle.command.specs.Objects.{Kinds, Objects}
 use Rattle.proxy_run.specs.Runs.{Runs}
-use Rattle.proxy_run.specs.Verifies.{Checked, IsRight, is_damaged}
 use Rattle.command.specs.declared.status.Status.{Status}
 use Rattle.command.specs.declared.status.Status.TheVariants.{Done, Memory}
 use Rattle.command.specs.declared.words.Command.TheVariants.{Verify}
-
--- Of files that stand for a sound book no volume is damaged, by the verdict that its bytes have.
-abbrev pub SoundVolumesVerify : Type 0
-SoundVolumesVerify =
-    (image : Image) (book : Book) (checked : List Checked) → ImageStandsFor image book
-    → map (λ (c : Checked). c.facts) checked ≡ facts_of book → All (IsRight book.namespace (length (facts_of book)) image) checked
-    → list_any (λ (c : Checked). is_damaged c.verdict) checked ≡ false
-
--- The verdicts on volumes that are due by bytes alone are one, whoever finds them, and whatever is known of the book.
-abbrev pub VolumesVerifyOneWay : Type 0
-VolumesVerifyOneWay =
-    (image : Image) (book other : Book) (checked others : List Checked) → HasCountsOf image book → HasCountsOf image other
-    → map (λ (c : Checked). c.facts) checked ≡ facts_of book → map (λ (c : Checked). c.facts) others ≡ facts_of other
-    → All (IsRight book.namespace (length (facts_of book)) image) checked → All (IsRight other.namespace (length (facts_of other)) image) others
-    → checked ≡ others
 
 -- the book on a disk that tells is known, or what a read gives is ready and has no checkpoint that is taken in place of a volume
 abbrev pub IsSureOf : {D : Type 0} → Disks D → Option Book → D → Type 0

@@ -1,2 +1,1 @@
-pub mod Verifying
 pub mod Seating

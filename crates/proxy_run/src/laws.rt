@@ -3,13 +3,15 @@ ghost use Rattle.proxy_run.specs.Complete.{CapturesComeBack, ChecksAreAnswered, 
 ghost use Rattle.command.specs.Objects.{kinds_of};
 ghost use Rattle.proxy_run.specs.OnePipe.{PipesLeaveNoChoice};
 ghost use Rattle.proxy_run.specs.Promises.{AllAreHungUp, AllAreReadOut, BooksLeadOn, BooksOnlyGrow, CapturesAreStoredOnce, FaultsAreCounted, GatesAreEmptied, LogsAreInOrder, ServersAreAnswered, ServersCapturesComeBack, ServersLeaveReady, ServersLeaveSettled, ServersLeaveTheLast, ServersWithoutShelvesComeBack, ServersWithoutShelvesLeaveReady};
-ghost use Rattle.proxy_run.specs.Verified.{SoundVolumesVerify, VerifiesAreAnswered, VolumesVerifyOneWay};
+ghost use Rattle.proxy_run.specs.Verified.{VerifiesAreAnswered};
+ghost use Rattle.verifying.specs.Verified.{SoundVolumesVerify, VolumesVerifyOneWay};
 
 use archive_settling::settling_keeps_checkpoints_right;
 use cdxj_index::books_have_one_index;
 use disk_model::Disk;
 use outside::{Clock, Dialer, Gate, Sink};
 use session::{courses_leave_no_choice, courses_only_grow};
+use verifying::sound_volumes_verify;
 use warc_text::files_stand_for_one_book;
 
 /// Where no count of faults rises, over a disk that stands for a sound book in the namespace that is asked for, `check` prints how
@@ -43,7 +45,9 @@ pub fn sound_archives_verify<D: Disk, G: Gate, N: Dialer, C: Clock, O: Sink>()
     ensures sound { SoundVolumesVerify }
     ensures one { VolumesVerifyOneWay }
     ensures done { VerifiesAreAnswered (kinds_of D.Disk G.Gate N.Dialer C.Clock O.Sink G.Link.tells N.Link.tells) }
-{}
+{
+    sound_volumes_verify();
+}
 
 /// Over a disk whose book is known and told, `pipe` answers the same bytes, times and transcripts in one way: by the same texts, the same
 /// book and the same status. That is so where neither its client's link nor one to an origin failed, nor the dialer or the disk, and

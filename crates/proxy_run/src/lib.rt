@@ -5,15 +5,11 @@ mod checking;
 mod counting;
 mod laws;
 mod piping;
-mod plan;
-mod replicating;
-mod report;
 mod running;
 mod seating;
 mod server;
 mod serving;
 mod staffing;
-mod verifying;
 
 pub use command::{Known, Unknown};
 pub use laws::{

@@ -9,18 +9,18 @@ ghost use Rattle.command.specs.Words as word;
 
 use crate::checking::check;
 use crate::piping::pipe;
-use crate::replicating::follow;
 use crate::server::{Service, serve_by_threads};
-use crate::verifying::verify;
 use capture::{Memory, Site};
 use command::{Command, Known, Ran, Status, Unknown, begin, command_of, print_as, site_of};
 use disk_model::Disk;
+use following::follow;
 use importing::import;
 use load_trial::trial;
 use outside::{Clock, Dialer, Gate, Sink};
 use std::alloc::Global;
 use std::sync::Wait;
 use std::thread::Threads;
+use verifying::verify;
 
 /// How many members a crew has.
 pub const CREW: usize = 16;

@@ -1,0 +1,3 @@
+mod SameVerdicts
+mod SoundVolumes
+mod VerifyLaws

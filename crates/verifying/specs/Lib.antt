@@ -1,0 +1,3 @@
+pub mod steps
+pub mod Verified
+pub mod Verifies
