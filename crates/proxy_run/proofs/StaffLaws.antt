@@ -129,9 +129,9 @@ module _ {D G L P N M C O : Type 0} (kinds : Kinds D G L P N M C O) (known : Opt
       (serve_lacking namespace workers site was status lacks.status_is)
 
   -- the base is none, or there was no memory to look at it
-  pub serve_siteless : (found : Option Command) (site : Option Site) (command : Command) (namespace : List ℕ) (workers : ℕ)
-      (was : Objects D G (List (N × C)) O) (out : O) (status : Status) → found ≡ Some command → command ≡ Serve namespace workers
-      → NamesNone kinds.sinks site was.out out status → Runs kinds known found site was (record was { out = out }) status
-  serve_siteless found site command namespace workers was out status is_command is_serve none =
-      subst (λ f. Runs kinds known f site was (record was { out = out }) status) (sym (is_command ∙ ap (λ (c : Command). Some c) is_serve))
+  pub serve_siteless : (site : Option Site) (command : Command) (namespace : List ℕ) (workers : ℕ) (was : Objects D G (List (N × C)) O) (out : O) (status : Status)
+      → command ≡ Serve namespace workers → NamesNone kinds.sinks site was.out out status
+      → Runs kinds known (Some command) site was (record was { out = out }) status
+  serve_siteless site command namespace workers was out status is_serve none =
+      subst (λ (c : Command). Runs kinds known (Some c) site was (record was { out = out }) status) (sym is_serve)
       (siteless namespace workers site was out status none)

@@ -1,11 +1,12 @@
 //! The call that the program makes.
-ghost use Rattle.std.specs.Prelude.{◌≡◌, length, IfErr, IfOk, IfSome, OnOk, None, Some};
+ghost use Rattle.std.specs.Prelude.{◌≡◌, ◌<◌, ◌≤◌, length, IfErr, IfOk, IfSome, OnOk, None, Some};
 ghost use Rattle.archive_opening.specs.Telling.{MayBeSettled};
 ghost use Rattle.command.specs.Base.{site_among};
 ghost use Rattle.command.specs.Objects.{kinds_of, objects_of};
 ghost use Rattle.command.specs.Beginning.{MayBegin};
 ghost use Rattle.proxy_run.specs.Runs.{NamesNone, Runs, RunsFrom};
 ghost use Rattle.command.specs.Words as word;
+ghost use Rattle.warc_text.specs.Ids.{IsUuid};
 
 use crate::checking::check;
 use crate::piping::pipe;
@@ -32,6 +33,12 @@ const USAGE: &[u8] =
 #[derive(Drop)]
 pub struct Crew<N, C> {
     pub members: Vec<(N, C)>,
+}
+
+/// A command, and the words that name it.
+struct Named<'a> {
+    command: Command,
+    words: &'a [&'a str],
 }
 
 /// Does what the words say. `pipe NS` opens the archive on the disk, serves the gate's first connection over it with the first
@@ -150,6 +157,42 @@ where
             disk,
         };
     };
+    let named = Named { command, words };
+    run_named::<R, D, G, N, C, O, K>(rt, alloc, named, disk, gate, crew, out)
+}
+
+/// Does what a command asks for over the disk that it begins with.
+fn run_named<R, D, G, N, C, O, K>(
+    rt: &R,
+    alloc: Global,
+    named: Named,
+    disk: D,
+    gate: &mut G,
+    crew: &mut Crew<N, C>,
+    out: &mut O,
+) -> Ran<D>
+where
+    R: Threads + Wait + Sync,
+    D: Disk + Send,
+    G: Gate + Send,
+    G::Link: Send,
+    G::Past: Send,
+    N: Dialer + Send,
+    N::Link: Send,
+    C: Clock + Send,
+    O: Sink,
+    K: Known,
+    requires crew { length crew.old.members.items ≡ CREW }
+    requires uuid { IfSome (word.asked_of named.command) IsUuid }
+    requires workers { IfSome (word.workers_of named.command) (λ n. (0 < n) × (n ≤ 16)) }
+    requires known { MayBeSettled D.Disk disk (word.asked_of named.command) K.book }
+
+    ensures { let kinds = kinds_of D.Disk G.Gate N.Dialer C.Clock O.Sink G.Link.tells N.Link.tells in
+        let was = objects_of disk gate.old crew.old.members.items out.old in
+        let is = objects_of result.disk gate.new crew.new.members.items out.new in
+        Runs kinds K.book (Some named.entry.command) (site_among (word.texts named.entry.words.now)) was is result.status }
+{
+    let Named { command, words } = named;
     match command {
         Command::Check => check(alloc, disk, out),
         Command::Follow(_) => match named_site(alloc, words, out) {
