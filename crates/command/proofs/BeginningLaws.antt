@@ -94,17 +94,12 @@ module _ {D : Type 0} (disks : Disks D) (was begun : D) (now : IsTrue disks.tell
   other : (known : Option Book) (asked : Option (List ℕ)) → begun ≡ was → MayBeSettled disks was asked known → MayBeSettled disks begun asked known
   other known asked same may = subst (λ (d : D). MayBeSettled disks d asked known) (sym same) may
 
-  of_command : (known : Option Book) (command : Command) → BeginsWith disks (stores (Some command)) was begun → MayBegin disks was known command
+  pub begun_known : (known : Option Book) (command : Command) → BeginsWith disks (stores command) was begun → MayBegin disks was known command
       → MayBeSettled disks begun (asked_of command) known
-  of_command known Check = other known None
-  of_command known (Follow namespace) = storing known (Some namespace)
-  of_command known (Import namespace) = storing known (Some namespace)
-  of_command known (Pipe namespace) = storing known (Some namespace)
-  of_command known (Serve namespace workers) = storing known (Some namespace)
-  of_command known (Trial count seed) = other known None
-  of_command known (Verify workers) = other known None
-
-  pub begun_known : (known : Option Book) (found : Option Command) → BeginsWith disks (stores found) was begun
-      → IfSome found (MayBegin disks was known) → IfSome found (λ command. MayBeSettled disks begun (asked_of command) known)
-  begun_known known None is may = tt
-  begun_known known (Some command) is may = of_command known command is may
+  begun_known known Check = other known None
+  begun_known known (Follow namespace) = storing known (Some namespace)
+  begun_known known (Import namespace) = storing known (Some namespace)
+  begun_known known (Pipe namespace) = storing known (Some namespace)
+  begun_known known (Serve namespace workers) = storing known (Some namespace)
+  begun_known known (Trial count seed) = other known None
+  begun_known known (Verify workers) = other known None

@@ -1,5 +1,5 @@
 -- What a command that stores begins with: a disk without checkpoints of volumes that aren't sealed.
-use Rattle.std.specs.Prelude.{◌≡◌, ◌⊎◌, ◌+◌, ◌<◌, ℕ, Bool, true, false, IsTrue, List, length, is_some, IfSome, Option, Some, None}
+use Rattle.std.specs.Prelude.{◌≡◌, ◌⊎◌, ◌+◌, ◌<◌, ℕ, Bool, true, false, IsTrue, List, length, is_some, IfSome, Option}
 use Rattle.archive_opening.specs.Telling.{IsAskedFor, IsSettledFor}
 use Rattle.archive_settling.specs.Supplying.{OpensNoMore}
 use Rattle.archive_shelf.specs.Openings.{ImageStandsFor}
@@ -22,10 +22,9 @@ use Rattle.command.specs.Words.{asked_of}
 use Rattle.command.specs.declared.status.Status.TheVariants.{Archive}
 use Rattle.command.specs.declared.words.Command.{Command}
 
--- the words ask for a command that stores: one that names a namespace
-abbrev pub stores : Option Command → Bool
-stores None = false
-stores (Some command) = is_some (asked_of command)
+-- a command that stores is one that names a namespace
+abbrev pub stores : Command → Bool
+stores command = is_some (asked_of command)
 
 -- the checkpoints of volumes that aren't sealed were taken away, and a crash leaves none of them
 pub record IsBegun {D : Type 0} (disks : Disks D) (was begun : D) : Type 0 where
@@ -62,7 +61,7 @@ IsFitFor false image book = IsSettledFor image book
 -- where the disk tells, what a read gives fits the book that is known, if one is, and has the namespace that is asked for, if one is
 abbrev pub MayBegin : {D : Type 0} → Disks D → D → Option Book → Command → Type 0
 MayBegin disks disk known command =
-    IfSome known (λ book. IsTrue disks.tells → IsFitFor (is_some (asked_of command)) (disks.reading disk) book × IsAskedFor (asked_of command) book)
+    IfSome known (λ book. IsTrue disks.tells → IsFitFor (stores command) (disks.reading disk) book × IsAskedFor (asked_of command) book)
 
 -- what may be opened where those checkpoints were taken away, all or some, at whatever moment, might have been before
 abbrev pub BeginningOpensNoMore : {D : Type 0} → Disks D → Type 0

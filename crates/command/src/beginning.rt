@@ -2,33 +2,28 @@
 ghost use Rattle.std.specs.Prelude.{◌≡◌, IfErr, IfOk, IsTrue, OnOk};
 ghost use Rattle.command.specs.Beginning.{BeginningKeepsTheBook, BeginningOpensNoMore, BeginsWith, IsBegun, IsNotBegun, SettledIsKept, stores};
 ghost use Rattle.command.specs.Printing.{printed_as};
-ghost use Rattle.command.specs.Words as word;
 
 use crate::opening::print_fault;
 use crate::status::Ran;
-use crate::words::{asked_of, command_of};
+use crate::words::{Command, asked_of};
 use archive_shelf::ReopenFault;
 use checkpoint::clear_unsealed;
 use disk_model::Disk;
 use outside::Sink;
 use std::alloc::Global;
 
-/// The disk that the words' command begins with. Before an archive is opened to store, the checkpoints of volumes that aren't sealed are taken away. None
+/// The disk that a command begins with. Before an archive is opened to store, the checkpoints of volumes that aren't sealed are taken away. None
 /// stands there, unless somebody took the last volume away or put a file there. Where the disk fails, that was printed.
 pub fn begin<D: Disk, O: Sink>(
     alloc: Global,
-    words: &[&str],
+    command: Command,
     disk: D,
     out: &mut O,
 ) -> Result<D, Ran<D>>
-    ensures begun { IfOk result (BeginsWith D.Disk (stores (word.command_of (word.texts words.now))) disk) }
-    ensures refused { IfErr result (λ ran. IsTrue (stores (word.command_of (word.texts words.now)))
-        × IsNotBegun D.Disk O.Sink disk ran.disk (printed_as out.old out.new ran.status)) }
+    ensures begun { IfOk result (BeginsWith D.Disk (stores command) disk) }
+    ensures refused { IfErr result (λ ran. IsTrue (stores command) × IsNotBegun D.Disk O.Sink disk ran.disk (printed_as out.old out.new ran.status)) }
     ensures prints_nothing { OnOk result (out.new ≡ out.old) }
 {
-    let Some(command) = command_of(words) else {
-        return Ok(disk);
-    };
     match asked_of(command) {
         Some(_) => cleared(alloc, disk, out),
         None => Ok(disk),

@@ -4,6 +4,7 @@ mod ConnectionLaws
 mod NextLaws
 mod OnePipeLaws
 mod PipeLaws
+mod ReadyLaws
 mod RunLaws
 mod SeatLaws
 mod ServeLaws

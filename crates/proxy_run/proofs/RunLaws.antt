@@ -22,49 +22,44 @@ use Rattle.command.specs.declared.words.Command.{Command}
 use Rattle.command.specs.declared.words.Command.TheVariants.{Check, Follow, Import, Pipe, Trial, Verify}
 
 module _ {D G L P N M C O : Type 0} (kinds : Kinds D G L P N M C O) (known : Option Book) (site : Option Site) where
-  pub runs_none : (found : Option Command) (was : Objects D G (List (N × C)) O) (out : O) (status : Status) → found ≡ None → Prints kinds.sinks Words usage was.out out status
-      → Runs kinds known found site was (record was { out = out }) status
-  runs_none found was out status none printed =
-      subst (λ f. Runs kinds known f site was (record was { out = out }) status) (sym none) (record { printed = printed; untouched = refl })
-
   checked : (was : Objects D G (List (N × C)) O) (disk : D) (out : O) (status : Status)
       → IsCounted kinds.disks kinds.sinks was.disk disk (printed_as was.out out status) ⊎ IsNotOpened kinds.disks kinds.sinks (opening_of was.disk Whole None None) disk (printed_as was.out out status)
-      → Runs kinds known (Some Check) site was (record was { disk = disk; out = out }) status
+      → Runs kinds known Check site was (record was { disk = disk; out = out }) status
   checked was disk out status (inl counted) = inl (counted, refl)
   checked was disk out status (inr refused) = inr (record { refused = refused; untouched = refl })
 
   pub runs_check : (command : Command) (was : Objects D G (List (N × C)) O) (disk : D) (out : O) (status : Status) → command ≡ Check
       → IsCounted kinds.disks kinds.sinks was.disk disk (printed_as was.out out status) ⊎ IsNotOpened kinds.disks kinds.sinks (opening_of was.disk Whole None None) disk (printed_as was.out out status)
-      → Runs kinds known (Some command) site was (record was { disk = disk; out = out }) status
+      → Runs kinds known command site was (record was { disk = disk; out = out }) status
   runs_check command was disk out status is_check result =
-      subst (λ (c : Command). Runs kinds known (Some c) site was (record was { disk = disk; out = out }) status) (sym is_check)
+      subst (λ (c : Command). Runs kinds known c site was (record was { disk = disk; out = out }) status) (sym is_check)
       (checked was disk out status result)
 
   verified_in : (workers : ℕ) (was : Objects D G (List (N × C)) O) (disk : D) (out : O) (status : Status)
       → IsVerified kinds.disks kinds.sinks (by_checkpoints was.disk None known) disk (printed_as was.out out status)
       ⊎ IsNotOpened kinds.disks kinds.sinks (by_checkpoints was.disk None known) disk (printed_as was.out out status)
-      → Runs kinds known (Some (Verify workers)) site was (record was { disk = disk; out = out }) status
+      → Runs kinds known (Verify workers) site was (record was { disk = disk; out = out }) status
   verified_in workers was disk out status (inl verified) = inl (verified, refl)
   verified_in workers was disk out status (inr refused) = inr (record { refused = refused; untouched = refl })
 
   pub runs_verify : (command : Command) (workers : ℕ) (was : Objects D G (List (N × C)) O) (disk : D) (out : O) (status : Status) → command ≡ Verify workers
       → IsVerified kinds.disks kinds.sinks (by_checkpoints was.disk None known) disk (printed_as was.out out status)
       ⊎ IsNotOpened kinds.disks kinds.sinks (by_checkpoints was.disk None known) disk (printed_as was.out out status)
-      → Runs kinds known (Some command) site was (record was { disk = disk; out = out }) status
+      → Runs kinds known command site was (record was { disk = disk; out = out }) status
   runs_verify command workers was disk out status is_verify result =
-      subst (λ (c : Command). Runs kinds known (Some c) site was (record was { disk = disk; out = out }) status) (sym is_verify)
+      subst (λ (c : Command). Runs kinds known c site was (record was { disk = disk; out = out }) status) (sym is_verify)
       (verified_in workers was disk out status result)
 
   tried_in : (count seed : ℕ) (was : Objects D G (List (N × C)) O) (disk : D) (out : O) (status : Status) → Tries kinds.sinks count seed was.out out status
-      → disk ≡ was.disk → Runs kinds known (Some (Trial count seed)) site was (record was { disk = disk; out = out }) status
+      → disk ≡ was.disk → Runs kinds known (Trial count seed) site was (record was { disk = disk; out = out }) status
   tried_in count seed was disk out status tries same =
-      subst (λ d. Runs kinds known (Some (Trial count seed)) site was (record was { disk = d; out = out }) status) (sym same)
+      subst (λ d. Runs kinds known (Trial count seed) site was (record was { disk = d; out = out }) status) (sym same)
       (tries, refl)
 
   pub runs_trial : (command : Command) (count seed : ℕ) (was : Objects D G (List (N × C)) O) (disk : D) (out : O) (status : Status) → command ≡ Trial count seed
-      → Tries kinds.sinks count seed was.out out status → disk ≡ was.disk → Runs kinds known (Some command) site was (record was { disk = disk; out = out }) status
+      → Tries kinds.sinks count seed was.out out status → disk ≡ was.disk → Runs kinds known command site was (record was { disk = disk; out = out }) status
   runs_trial command count seed was disk out status is_trial tries same =
-      subst (λ (c : Command). Runs kinds known (Some c) site was (record was { disk = disk; out = out }) status) (sym is_trial)
+      subst (λ (c : Command). Runs kinds known c site was (record was { disk = disk; out = out }) status) (sym is_trial)
       (tried_in count seed was disk out status tries same)
 
   refuses_all : (opening : Opening D) (was is : Objects D G (List (N × C)) O) (status : Status) (before after : N × C) (others : List (N × C))
@@ -81,7 +76,7 @@ module _ {D G L P N M C O : Type 0} (kinds : Kinds D G L P N M C O) (known : Opt
   piped : (namespace : List ℕ) (was is : Objects D G (List (N × C)) O) (status : Status) (before after : N × C) (others : List (N × C))
       → was.crew ≡ before ∷ others → is.crew ≡ after ∷ others
       → Pipes kinds known (Some namespace) (with_one was before) (with_one is after) status
-      ⊎ Refuses kinds (by_checkpoints was.disk (Some namespace) known) (with_one was before) (with_one is after) status → Runs kinds known (Some (Pipe namespace)) site was is status
+      ⊎ Refuses kinds (by_checkpoints was.disk (Some namespace) known) (with_one was before) (with_one is after) status → Runs kinds known (Pipe namespace) site was is status
   piped namespace was is status before after others were are (inl pipes) =
       inl (record { before = before; after = after; others = others; were = were; are = are }, pipes)
   piped namespace was is status before after others were are (inr refuses) =
@@ -90,9 +85,9 @@ module _ {D G L P N M C O : Type 0} (kinds : Kinds D G L P N M C O) (known : Opt
   pub runs_pipe : (command : Command) (namespace : List ℕ) (was is : Objects D G (List (N × C)) O) (status : Status) (before after : N × C) (others : List (N × C))
       → command ≡ Pipe namespace → was.crew ≡ before ∷ others → is.crew ≡ after ∷ others
       → Pipes kinds known (asked_of command) (with_one was before) (with_one is after) status
-      ⊎ Refuses kinds (by_checkpoints was.disk (asked_of command) known) (with_one was before) (with_one is after) status → Runs kinds known (Some command) site was is status
+      ⊎ Refuses kinds (by_checkpoints was.disk (asked_of command) known) (with_one was before) (with_one is after) status → Runs kinds known command site was is status
   runs_pipe command namespace was is status before after others is_pipe were are result =
-      subst (λ (c : Command). Runs kinds known (Some c) site was is status) (sym is_pipe)
+      subst (λ (c : Command). Runs kinds known c site was is status) (sym is_pipe)
       (piped namespace was is status before after others were are
       (subst (λ c. Pipes kinds known (asked_of c) (with_one was before) (with_one is after) status
       ⊎ Refuses kinds (by_checkpoints was.disk (asked_of c) known) (with_one was before) (with_one is after) status) is_pipe result))
@@ -100,7 +95,7 @@ module _ {D G L P N M C O : Type 0} (kinds : Kinds D G L P N M C O) (known : Opt
   taken_in : (namespace : List ℕ) (was : Objects D G (List (N × C)) O) (disk : D) (gate : G) (out : O) (status : Status)
       → Imports kinds.disks kinds.gates kinds.sinks kinds.clients_tell known (Some namespace) (objects_of was.disk was.gate tt was.out) (objects_of disk gate tt out) status
       ⊎ (IsNotOpened kinds.disks kinds.sinks (by_checkpoints was.disk (Some namespace) known) disk (printed_as was.out out status) × (gate ≡ was.gate))
-      → Runs kinds known (Some (Import namespace)) site was (record was { disk = disk; gate = gate; out = out }) status
+      → Runs kinds known (Import namespace) site was (record was { disk = disk; gate = gate; out = out }) status
   taken_in namespace was disk gate out status (inl imports) = inl (imports, refl)
   taken_in namespace was disk gate out status (inr (refused, same)) =
       inr (record { refused = refused; untouched = ap (λ (g : G). record was { disk = disk; gate = g; out = out }) same })
@@ -109,9 +104,9 @@ module _ {D G L P N M C O : Type 0} (kinds : Kinds D G L P N M C O) (known : Opt
       → command ≡ Import namespace
       → Imports kinds.disks kinds.gates kinds.sinks kinds.clients_tell known (asked_of command) (objects_of was.disk was.gate tt was.out) (objects_of disk gate tt out) status
       ⊎ (IsNotOpened kinds.disks kinds.sinks (by_checkpoints was.disk (asked_of command) known) disk (printed_as was.out out status) × (gate ≡ was.gate))
-      → Runs kinds known (Some command) site was (record was { disk = disk; gate = gate; out = out }) status
+      → Runs kinds known command site was (record was { disk = disk; gate = gate; out = out }) status
   runs_import command namespace was disk gate out status is_import result =
-      subst (λ (c : Command). Runs kinds known (Some c) site was (record was { disk = disk; gate = gate; out = out }) status) (sym is_import)
+      subst (λ (c : Command). Runs kinds known c site was (record was { disk = disk; gate = gate; out = out }) status) (sym is_import)
       (taken_in namespace was disk gate out status
       (subst (λ c. Imports kinds.disks kinds.gates kinds.sinks kinds.clients_tell known (asked_of c) (objects_of was.disk was.gate tt was.out) (objects_of disk gate tt out) status
       ⊎ (IsNotOpened kinds.disks kinds.sinks (by_checkpoints was.disk (asked_of c) known) disk (printed_as was.out out status) × (gate ≡ was.gate))) is_import result))
@@ -120,7 +115,7 @@ module _ {D G L P N M C O : Type 0} (kinds : Kinds D G L P N M C O) (known : Opt
       → was.crew ≡ before ∷ others → is.crew ≡ after ∷ others → is.gate ≡ was.gate
       → Follows kinds.disks kinds.dialers kinds.sinks kinds.origins_tell known (Some namespace) base (objects_of was.disk tt before was.out) (objects_of is.disk tt after is.out) status
       ⊎ (IsNotOpened kinds.disks kinds.sinks (by_checkpoints was.disk (Some namespace) known) is.disk (printed_as was.out is.out status) × (after ≡ before))
-      → Runs kinds known (Some (Follow namespace)) (Some base) was is status
+      → Runs kinds known (Follow namespace) (Some base) was is status
   replicated namespace base was is status before after others were are gate (inl follows) =
       inl (record { before = before; after = after; others = others; were = were; are = are }, follows, gate)
   replicated namespace base was is status before after others were are gate (inr (refused, same)) =
@@ -135,31 +130,31 @@ module _ {D G L P N M C O : Type 0} (kinds : Kinds D G L P N M C O) (known : Opt
       → is.gate ≡ was.gate
       → Follows kinds.disks kinds.dialers kinds.sinks kinds.origins_tell known (asked_of command) base (objects_of was.disk tt before was.out) (objects_of is.disk tt after is.out) status
       ⊎ (IsNotOpened kinds.disks kinds.sinks (by_checkpoints was.disk (asked_of command) known) is.disk (printed_as was.out is.out status) × (after ≡ before))
-      → Runs kinds known (Some command) site was is status
+      → Runs kinds known command site was is status
   runs_follow command namespace base was is status before after others is_follow is_site were are gate result =
-      subst (λ (s : Option Site). Runs kinds known (Some command) s was is status) is_site
-      (subst (λ (c : Command). Runs kinds known (Some c) (Some base) was is status) (sym is_follow)
+      subst (λ (s : Option Site). Runs kinds known command s was is status) is_site
+      (subst (λ (c : Command). Runs kinds known c (Some base) was is status) (sym is_follow)
       (replicated namespace base was is status before after others were are gate
       (subst (λ c. Follows kinds.disks kinds.dialers kinds.sinks kinds.origins_tell known (asked_of c) base (objects_of was.disk tt before was.out) (objects_of is.disk tt after is.out) status
       ⊎ (IsNotOpened kinds.disks kinds.sinks (by_checkpoints was.disk (asked_of c) known) is.disk (printed_as was.out is.out status) × (after ≡ before))) is_follow result)))
 
   follow_lacking : (namespace : List ℕ) (base : Option Site) (was : Objects D G (List (N × C)) O) (status : Status) → status ≡ Memory
-      → Runs kinds known (Some (Follow namespace)) base was was status
+      → Runs kinds known (Follow namespace) base was was status
   follow_lacking namespace None was status memory = inr (memory, refl)
   follow_lacking namespace (Some base) was status memory = inr (inr (memory, refl))
 
   siteless : (namespace : List ℕ) (was : Objects D G (List (N × C)) O) (out : O) (status : Status) → NamesNone kinds.sinks site was.out out status
-      → Runs kinds known (Some (Follow namespace)) site was (record was { out = out }) status
+      → Runs kinds known (Follow namespace) site was (record was { out = out }) status
   siteless namespace was out status (inl (none, printed)) =
-      subst (λ (s : Option Site). Runs kinds known (Some (Follow namespace)) s was (record was { out = out }) status) (sym none)
+      subst (λ (s : Option Site). Runs kinds known (Follow namespace) s was (record was { out = out }) status) (sym none)
       (inl (record { printed = printed; untouched = refl }))
   siteless namespace was out status (inr lacks) =
-      subst (λ (o : O). Runs kinds known (Some (Follow namespace)) site was (record was { out = o }) status) (sym lacks.same)
+      subst (λ (o : O). Runs kinds known (Follow namespace) site was (record was { out = o }) status) (sym lacks.same)
       (follow_lacking namespace site was status lacks.status_is)
 
   -- the base is none, or there was no memory to look at it
   pub follow_siteless : (command : Command) (namespace : List ℕ) (was : Objects D G (List (N × C)) O) (out : O) (status : Status) → command ≡ Follow namespace
-      → NamesNone kinds.sinks site was.out out status → Runs kinds known (Some command) site was (record was { out = out }) status
+      → NamesNone kinds.sinks site was.out out status → Runs kinds known command site was (record was { out = out }) status
   follow_siteless command namespace was out status is_follow none =
-      subst (λ (c : Command). Runs kinds known (Some c) site was (record was { out = out }) status) (sym is_follow)
+      subst (λ (c : Command). Runs kinds known c site was (record was { out = out }) status) (sym is_follow)
       (siteless namespace was out status none)

@@ -92,7 +92,7 @@ module _ {D G L P N M C O : Type 0} (kinds : Kinds D G L P N M C O) (known : Opt
       → Serves kinds known (record { asked = Some namespace; site = site; workers = workers }) (record was { out = out }) is status
       ⊎ LacksShelves kinds known (Some namespace) (record was { out = out }) is status
       ⊎ Refuses kinds (by_checkpoints was.disk (Some namespace) known) (record was { out = out }) is status
-      → Runs kinds known (Some (Serve namespace workers)) (Some site) was is status
+      → Runs kinds known (Serve namespace workers) (Some site) was is status
   served_in namespace site workers was is out status has served = inr (out, has, one_more served)
 
   pub runs_staffed : (command : Command) (namespace : List ℕ) (site : Site) (workers : ℕ) (was is : Objects D G (List (N × C)) O) (out : O) (status : Status)
@@ -100,9 +100,9 @@ module _ {D G L P N M C O : Type 0} (kinds : Kinds D G L P N M C O) (known : Opt
       → Serves kinds known (record { asked = asked_of command; site = site; workers = workers }) (record was { out = out }) is status
       ⊎ LacksShelves kinds known (asked_of command) (record was { out = out }) is status
       ⊎ Refuses kinds (by_checkpoints was.disk (asked_of command) known) (record was { out = out }) is status
-      → Runs kinds known (Some command) (Some site) was is status
+      → Runs kinds known command (Some site) was is status
   runs_staffed command namespace site workers was is out status is_serve has served =
-      subst (λ (c : Command). Runs kinds known (Some c) (Some site) was is status) (sym is_serve)
+      subst (λ (c : Command). Runs kinds known c (Some site) was is status) (sym is_serve)
       (served_in namespace site workers was is out status has
       (subst (λ (c : Command). Serves kinds known (record { asked = asked_of c; site = site; workers = workers }) (record was { out = out }) is status
       ⊎ LacksShelves kinds known (asked_of c) (record was { out = out }) is status
@@ -110,28 +110,28 @@ module _ {D G L P N M C O : Type 0} (kinds : Kinds D G L P N M C O) (known : Opt
 
   pub runs_unstaffed : (command : Command) (namespace : List ℕ) (site : Site) (workers : ℕ) (was : Objects D G (List (N × C)) O) (out : O) (status : Status)
       → command ≡ Serve namespace workers → LacksThreads kinds.sinks workers was.out out status
-      → Runs kinds known (Some command) (Some site) was (record was { out = out }) status
+      → Runs kinds known command (Some site) was (record was { out = out }) status
   runs_unstaffed command namespace site workers was out status is_serve lacks =
-      subst (λ (c : Command). Runs kinds known (Some c) (Some site) was (record was { out = out }) status) (sym is_serve) (inl (lacks, refl))
+      subst (λ (c : Command). Runs kinds known c (Some site) was (record was { out = out }) status) (sym is_serve) (inl (lacks, refl))
 
   serve_lacking : (namespace : List ℕ) (workers : ℕ) (base : Option Site) (was : Objects D G (List (N × C)) O) (status : Status) → status ≡ Memory
-      → Runs kinds known (Some (Serve namespace workers)) base was was status
+      → Runs kinds known (Serve namespace workers) base was was status
   serve_lacking namespace workers None was status memory = inr (memory, refl)
   serve_lacking namespace workers (Some base) was status memory = inr (was.out, inl refl, inr (inr (inr (memory, refl))))
 
   siteless : (namespace : List ℕ) (workers : ℕ) (site : Option Site) (was : Objects D G (List (N × C)) O) (out : O) (status : Status)
-      → NamesNone kinds.sinks site was.out out status → Runs kinds known (Some (Serve namespace workers)) site was (record was { out = out }) status
+      → NamesNone kinds.sinks site was.out out status → Runs kinds known (Serve namespace workers) site was (record was { out = out }) status
   siteless namespace workers site was out status (inl (none, printed)) =
-      subst (λ (s : Option Site). Runs kinds known (Some (Serve namespace workers)) s was (record was { out = out }) status) (sym none)
+      subst (λ (s : Option Site). Runs kinds known (Serve namespace workers) s was (record was { out = out }) status) (sym none)
       (inl (record { printed = printed; untouched = refl }))
   siteless namespace workers site was out status (inr lacks) =
-      subst (λ (o : O). Runs kinds known (Some (Serve namespace workers)) site was (record was { out = o }) status) (sym lacks.same)
+      subst (λ (o : O). Runs kinds known (Serve namespace workers) site was (record was { out = o }) status) (sym lacks.same)
       (serve_lacking namespace workers site was status lacks.status_is)
 
   -- the base is none, or there was no memory to look at it
   pub serve_siteless : (site : Option Site) (command : Command) (namespace : List ℕ) (workers : ℕ) (was : Objects D G (List (N × C)) O) (out : O) (status : Status)
       → command ≡ Serve namespace workers → NamesNone kinds.sinks site was.out out status
-      → Runs kinds known (Some command) site was (record was { out = out }) status
+      → Runs kinds known command site was (record was { out = out }) status
   serve_siteless site command namespace workers was out status is_serve none =
-      subst (λ (c : Command). Runs kinds known (Some c) site was (record was { out = out }) status) (sym is_serve)
+      subst (λ (c : Command). Runs kinds known c site was (record was { out = out }) status) (sym is_serve)
       (siteless namespace workers site was out status none)

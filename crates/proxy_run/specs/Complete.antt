@@ -127,14 +127,14 @@ module _ {D G L P N M C O : Type 0} (kinds : Kinds D G L P N M C O) where
   abbrev pub ChecksAreAnswered : Type 0
   ChecksAreAnswered =
       (was is : Objects D G (List (N × C)) O) (status : Status) → IsTrue kinds.disks.tells → IsReady None (kinds.disks.reading was.disk) → NoFaults was is
-      → (known : Option Book) (site : Option Site) → Runs kinds known (Some Check) site was is status → (status ≡ Done) ⊎ (status ≡ Memory)
+      → (known : Option Book) (site : Option Site) → Runs kinds known Check site was is status → (status ≡ Done) ⊎ (status ≡ Memory)
 
   -- Where nothing failed and the book is known, `pipe` goes well, unless its connection ends badly.
   abbrev pub PipesAreAnswered : Type 0
   PipesAreAnswered =
       (known : Option Book) (namespace : List ℕ) (was is : Objects D G (List (N × C)) O) (status : Status)
       → IsTrue (told_at Checkpoints kinds.disks.tells known) → IsTrue kinds.clients_tell → IsTrue kinds.origins_tell → NoFaults was is
-      → (site : Option Site) → Runs kinds known (Some (Pipe namespace)) site was is status → (status ≡ Done) ⊎ (status ≡ Memory) ⊎ ServesBadly was is status
+      → (site : Option Site) → Runs kinds known (Pipe namespace) site was is status → (status ≡ Done) ⊎ (status ≡ Memory) ⊎ ServesBadly was is status
 
   -- an import took not all; the crew wasn't touched
   pub record ImportsBadly (known : Option Book) (namespace : List ℕ) (was is : Objects D G (List (N × C)) O) (status : Status) : Type 0 where
@@ -148,7 +148,7 @@ module _ {D G L P N M C O : Type 0} (kinds : Kinds D G L P N M C O) where
   ImportsAreAnswered =
       (known : Option Book) (namespace : List ℕ) (was is : Objects D G (List (N × C)) O) (status : Status)
       → IsTrue (told_at Checkpoints kinds.disks.tells known) → NoFaults was is → (site : Option Site)
-      → Runs kinds known (Some (Import namespace)) site was is status
+      → Runs kinds known (Import namespace) site was is status
       → (status ≡ Done) ⊎ (status ≡ Memory) ⊎ ImportsBadly known namespace was is status
 
   -- a source wasn't followed to its end, with the dialer of the crew's first member; the gate wasn't touched
@@ -163,7 +163,7 @@ module _ {D G L P N M C O : Type 0} (kinds : Kinds D G L P N M C O) where
   abbrev pub FollowsAreAnswered : Type 0
   FollowsAreAnswered =
       (known : Option Book) (namespace : List ℕ) (site : Site) (was is : Objects D G (List (N × C)) O) (status : Status)
-      → IsTrue (told_at Checkpoints kinds.disks.tells known) → NoFaults was is → Runs kinds known (Some (Follow namespace)) (Some site) was is status
+      → IsTrue (told_at Checkpoints kinds.disks.tells known) → NoFaults was is → Runs kinds known (Follow namespace) (Some site) was is status
       → (status ≡ Done) ⊎ (status ≡ Memory) ⊎ FollowsBadly known namespace site was is status
 
   -- Each image that `follow` may leave, and so what a read gives, is settled for a book that the next run may know, where the ids differ.

@@ -210,5 +210,5 @@ module _ {D G L P N M C O : Type 0} (kinds : Kinds D G L P N M C O) where
   ServersAreAnswered =
       (known : Option Book) (namespace : List ℕ) (site : Site) (workers : ℕ) (was is : Objects D G (List (N × C)) O) (status : Status)
       → IsTrue (told_at Checkpoints kinds.disks.tells known) → NoFaults kinds was is
-      → Runs kinds known (Some (Serve namespace workers)) (Some site) was is status
+      → Runs kinds known (Serve namespace workers) (Some site) was is status
       → (status ≡ Done) ⊎ (status ≡ Memory) ⊎ PrintsAll kinds.sinks Outside no_thread was.out is.out status

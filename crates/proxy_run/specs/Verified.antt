@@ -22,4 +22,4 @@ IsSureOf disks known disk =
 abbrev pub VerifiesAreAnswered : {D G L P N M C O : Type 0} → Kinds D G L P N M C O → Type 0
 VerifiesAreAnswered {D = D} {G = G} {N = N} {C = C} {O = O} kinds =
     (workers : ℕ) (was is : Objects D G (List (N × C)) O) (status : Status) (known : Option Book) → IsSureOf kinds.disks known was.disk → NoFaults kinds was is
-    → (site : Option Site) → Runs kinds known (Some (Verify workers)) site was is status → (status ≡ Done) ⊎ (status ≡ Memory)
+    → (site : Option Site) → Runs kinds known (Verify workers) site was is status → (status ≡ Done) ⊎ (status ≡ Memory)

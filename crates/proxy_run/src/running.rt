@@ -1,10 +1,12 @@
 //! The call that the program makes.
-ghost use Rattle.std.specs.Prelude.{◌≡◌, ◌<◌, ◌≤◌, length, IfErr, IfOk, IfSome, OnOk, None, Some};
+ghost use Rattle.std.specs.Prelude.{◌≡◌, ◌<◌, ◌≤◌, length, IfErr, IfOk, IfSome, IsTrue, OnOk, None, Some};
 ghost use Rattle.archive_opening.specs.Telling.{MayBeSettled};
 ghost use Rattle.command.specs.Base.{site_among};
 ghost use Rattle.command.specs.Objects.{kinds_of, objects_of};
 ghost use Rattle.command.specs.Beginning.{MayBegin};
-ghost use Rattle.proxy_run.specs.Runs.{NamesNone, Runs, RunsFrom};
+ghost use Rattle.command.specs.Printing.{printed_as};
+ghost use Rattle.proxy_run.specs.Runs.{HasBase, IsReady, IsUnready, LacksBase, NamesNone, Runs, RunsFrom};
+ghost use Rattle.proxy_run.specs.Runs as runs;
 ghost use Rattle.command.specs.Words as word;
 ghost use Rattle.warc_text.specs.Ids.{IsUuid};
 
@@ -116,49 +118,19 @@ where
         let is = objects_of result.disk gate.new crew.new.members.items out.new in
         RunsFrom kinds K.book (word.command_of (word.texts words.now)) (site_among (word.texts words.now)) was is result.status }
 {
-    match begin(alloc, words, disk, out) {
-        Ok(disk) => run_over::<R, D, G, N, C, O, K>(rt, alloc, words, disk, gate, crew, out),
-        Err(ran) => ran,
-    }
-}
-
-/// Does what the words say over the disk that their command begins with.
-fn run_over<R, D, G, N, C, O, K>(
-    rt: &R,
-    alloc: Global,
-    words: &[&str],
-    disk: D,
-    gate: &mut G,
-    crew: &mut Crew<N, C>,
-    out: &mut O,
-) -> Ran<D>
-where
-    R: Threads + Wait + Sync,
-    D: Disk + Send,
-    G: Gate + Send,
-    G::Link: Send,
-    G::Past: Send,
-    N: Dialer + Send,
-    N::Link: Send,
-    C: Clock + Send,
-    O: Sink,
-    K: Known,
-    requires crew { length crew.old.members.items ≡ CREW }
-    requires known { IfSome (word.command_of (word.texts words.now)) (λ command. MayBeSettled D.Disk disk (word.asked_of command) K.book) }
-
-    ensures { let kinds = kinds_of D.Disk G.Gate N.Dialer C.Clock O.Sink G.Link.tells N.Link.tells in
-        let was = objects_of disk gate.old crew.old.members.items out.old in
-        let is = objects_of result.disk gate.new crew.new.members.items out.new in
-        Runs kinds K.book (word.command_of (word.texts words.now)) (site_among (word.texts words.now)) was is result.status }
-{
     let Some(command) = command_of(words) else {
         return Ran {
             status: print_as(out, USAGE, Status::Words),
             disk,
         };
     };
-    let named = Named { command, words };
-    run_named::<R, D, G, N, C, O, K>(rt, alloc, named, disk, gate, crew, out)
+    match get_ready(alloc, words, disk, out) {
+        Ok(disk) => {
+            let named = Named { command, words };
+            run_named::<R, D, G, N, C, O, K>(rt, alloc, named, disk, gate, crew, out)
+        }
+        Err(ran) => ran,
+    }
 }
 
 /// Does what a command asks for over the disk that it begins with.
@@ -190,7 +162,7 @@ where
     ensures { let kinds = kinds_of D.Disk G.Gate N.Dialer C.Clock O.Sink G.Link.tells N.Link.tells in
         let was = objects_of disk gate.old crew.old.members.items out.old in
         let is = objects_of result.disk gate.new crew.new.members.items out.new in
-        Runs kinds K.book (Some named.entry.command) (site_among (word.texts named.entry.words.now)) was is result.status }
+        Runs kinds K.book named.entry.command (site_among (word.texts named.entry.words.now)) was is result.status }
 {
     let Named { command, words } = named;
     match command {
@@ -223,6 +195,61 @@ where
         },
         Command::Trial(count, seed) => trial(alloc, count, seed, disk, out),
         Command::Verify(workers) => verify::<K, R, D, O>(rt, alloc, workers, disk, out),
+    }
+}
+
+/// The disk that the words' command begins with, once its base was looked at.
+fn get_ready<D: Disk, O: Sink>(
+    alloc: Global,
+    words: &[&str],
+    disk: D,
+    out: &mut O,
+) -> Result<D, Ran<D>>
+    ensures ready { IfOk result (IsReady D.Disk (word.command_of (word.texts words.now)) (site_among (word.texts words.now)) disk) }
+    ensures unready { IfErr result (λ ran.
+        IsUnready D.Disk O.Sink (word.command_of (word.texts words.now)) (site_among (word.texts words.now)) disk ran.disk (printed_as out.old out.new ran.status)) }
+    ensures prints_nothing { OnOk result (out.new ≡ out.old) }
+{
+    let Some(command) = command_of(words) else {
+        return Ok(disk);
+    };
+    match look_at_base(alloc, words, out) {
+        Ok(()) => begin(alloc, command, disk, out),
+        Err(status) => Err(Ran { status, disk }),
+    }
+}
+
+/// Looks whether the words name the base that their command needs, before anything is touched. Where they name none the usage is printed.
+fn look_at_base<O: Sink>(alloc: Global, words: &[&str], out: &mut O) -> Result<(), Status>
+    ensures named { OnOk result (HasBase (word.command_of (word.texts words.now)) (site_among (word.texts words.now))) }
+    ensures prints_nothing { OnOk result (out.new ≡ out.old) }
+    ensures none { IfErr result (λ status.
+        LacksBase O.Sink (word.command_of (word.texts words.now)) (site_among (word.texts words.now)) out.old out.new status) }
+{
+    let Some(command) = command_of(words) else {
+        return Ok(());
+    };
+    match has_base(command) {
+        true => {
+            let _site = named_site(alloc, words, out)?;
+            Ok(())
+        }
+        false => Ok(()),
+    }
+}
+
+/// Whether a command has a base among its words.
+fn has_base(command: Command) -> bool
+    ensures { result ≡ runs.has_base command }
+{
+    match command {
+        Command::Check => false,
+        Command::Follow(_) => true,
+        Command::Import(_) => false,
+        Command::Pipe(_) => false,
+        Command::Serve(_, _) => true,
+        Command::Trial(_, _) => false,
+        Command::Verify(_) => false,
     }
 }
 

@@ -76,7 +76,7 @@ where
     ensures { let kinds = kinds_of D.Disk G.Gate N.Dialer C.Clock O.Sink G.Link.tells N.Link.tells in
         let was = objects_of disk gate.old crew.old.items out.old in
         let is = objects_of result.disk gate.new crew.new.items out.new in
-        Runs kinds K.book (Some service.entry.command) (Some service.entry.site.now) was is result.status }
+        Runs kinds K.book service.entry.command (Some service.entry.site.now) was is result.status }
 {
     let Service {
         command,
