@@ -1,12 +1,13 @@
 //! The folder `archive` over the system's files.
 //! No case can say it: a case has a disk in memory, and no folder is shared there.
 use crate::checked::check;
-use crate::disk_steps;
-use crate::disk_steps::taken;
+use crate::opening::{opened, status_of};
 use call_log::{Written, then};
+use command::Status;
 use disk_model::Kind::{Cdxj, Warc};
+use disk_steps::taken;
 use folder_model::Lock;
-use outside::Failed;
+use outside::{Failed, MemorySink};
 use real_outside::{FileSystem, RealDisk, SystemFolders};
 use std::fs;
 use std::process::Abort;
@@ -204,6 +205,15 @@ static PUT: Scene = (
     "2;0;failed;failed;failed;failed;0;0;",
 );
 
+/// A first file that is no volume.
+static NO_VOLUME: Scene = (
+    &[
+        Calls(Create(Warc)),
+        Calls(Write(Warc, 0, 0, b"WARC/2.0\r\n")),
+    ],
+    "0;0;",
+);
+
 /// A disk in the folder, of a process that has it so.
 fn disk_as(rt: HostRuntime, lock: Lock) -> RealDisk<SystemFolders> {
     RealDisk::new(rt.folders(), rt.alloc(), lock)
@@ -238,9 +248,20 @@ fn touches_no_file_of_another<R: Abort>(abort: &R, rt: HostRuntime) {
     plays(abort, rt, &mut disk_as(rt, Lock::Alone), &PUT);
 }
 
+/// What is printed where the archive is damaged, and the status.
+fn refuses_what_is_damaged<R: Abort>(abort: &R, rt: HostRuntime) {
+    let mut disk = disk_as(rt, Lock::Alone);
+    plays(abort, rt, &mut disk, &NO_VOLUME);
+    let mut out = MemorySink::new(rt.alloc(), Vec::new(rt.alloc()));
+    let status = status_of(opened(rt.alloc(), disk, &mut out));
+    assert!(abort; status == Status::Archive);
+    assert!(abort; out.written() == b"damaged vol-000000.warc 0\n".as_slice());
+}
+
 // One test, since there is one folder.
 #[test]
 fn keeps_numbered_files_and_touches_no_other(rt: HostRuntime) {
     keeps_numbered_files(&rt, rt);
     touches_no_file_of_another(&rt, rt);
+    refuses_what_is_damaged(&rt, rt);
 }

@@ -1,6 +1,6 @@
 //! How the cause of each fault is told.
-use super::rows::{CREATE, CUT_0, FILES, LEN_0, READ_0, Row, SYNC_0, WRITE_0, check_rows};
 use crate::recorded_folders::{NEVER, Plan, TWO_VOLUMES};
+use crate::rows::{CREATE, CUT_0, FILES, LEN_0, READ_0, Row, SYNC_0, WRITE_0, check_rows};
 use folder_model::Lock;
 use std::io::ErrorKind;
 

@@ -1,10 +1,10 @@
 //! Rows of steps, and what is called for them.
 use crate::checked::check;
-use crate::disk_steps::{Step, taken};
 use crate::recorded_folders::{Plan, RecordedFolders, Recorder, TWO_VOLUMES};
 use call_log::{Written, joined, written};
 use disk_model::Disk;
 use disk_model::Kind::Warc;
+use disk_steps::{Step, taken};
 use folder_model::Lock;
 use real_outside::RealDisk;
 use std::alloc::{AllocError, Global};

@@ -1,8 +1,8 @@
 //! What becomes of a number that has no checkpoint.
-use super::rows::{FILES, Row, check_rows};
-use crate::disk_steps::Step;
 use crate::recorded_folders::{NEVER, NO_VOLUME, Plan};
+use crate::rows::{FILES, Row, check_rows};
 use disk_model::Kind::Cdxj;
+use disk_steps::Step;
 use folder_model::Lock;
 use std::io::ErrorKind;
 

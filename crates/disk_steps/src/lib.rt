@@ -1,11 +1,13 @@
-//! Calls of a disk, as rows list them.
+//! Calls of the program's disk, as rows of tests list them.
+#![tactic(auto)]
+
 use disk_model::{Disk, Kind};
 use outside::Failed;
 use real_outside::{RealDisk, SilentFolders};
 
 /// One call of a disk.
 #[derive(Clone, Copy)]
-pub(crate) enum Step {
+pub enum Step {
     /// How many files there are.
     Files(Kind),
     /// Makes a file.
@@ -25,10 +27,7 @@ pub(crate) enum Step {
 }
 
 /// Takes one step, and answers its number, or 0 where it has none.
-pub(crate) fn taken<R: SilentFolders + Drop>(
-    disk: &mut RealDisk<R>,
-    step: Step,
-) -> Result<usize, Failed>
+pub fn taken<R: SilentFolders + Drop>(disk: &mut RealDisk<R>, step: Step) -> Result<usize, Failed>
 where
     R::Folder: Drop,
 {

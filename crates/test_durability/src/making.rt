@@ -1,12 +1,12 @@
 //! In which order a file is made, and what a call that fails leaves.
-use super::rows::{
+use crate::checked::check;
+use crate::recorded_folders::{NEVER, NO_VOLUME, Plan, TWO_VOLUMES};
+use crate::rows::{
     CREATE, FILES, NO_FOLDER, NOT_FOUND, ONE_WRITE, REOPENED, Row, SYNC_0, WRITE_0, check_rows,
     played, whole,
 };
-use crate::checked::check;
-use crate::disk_steps::Step;
-use crate::recorded_folders::{NEVER, NO_VOLUME, Plan, TWO_VOLUMES};
 use disk_model::Kind::Cdxj;
+use disk_steps::Step;
 use folder_model::Lock;
 use std::alloc::Global;
 use std::io::ErrorKind;

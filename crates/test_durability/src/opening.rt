@@ -1,9 +1,9 @@
 //! In which order the folder is opened.
-use super::rows::{
+use crate::recorded_folders::{NEVER, NO_VOLUME, Plan, TWO_VOLUMES};
+use crate::rows::{
     CREATE, CUT_0, FILES, MOVES_AT_4, NO_FOLDER, NOT_FOUND, READ, READ_0, Row, SYNC_0, SYNC_2,
     WRITE_0, WRITE_2, check_rows,
 };
-use crate::recorded_folders::{NEVER, NO_VOLUME, Plan, TWO_VOLUMES};
 use folder_model::Lock;
 use std::io::ErrorKind;
 

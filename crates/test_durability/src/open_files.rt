@@ -1,11 +1,11 @@
 //! What is asked of open files, and how others are noticed.
-use super::rows::{
+use crate::recorded_folders::{NEVER, Plan, TWO_VOLUMES};
+use crate::rows::{
     CREATE, CUT_0, FILES, LEN_0, MOVES_AT_4, ONE_WRITE, READ, READ_0, REOPENED, Row, SYNC_0,
     SYNC_2, WRITE_0, WRITE_2, check_rows,
 };
-use crate::disk_steps::Step;
-use crate::recorded_folders::{NEVER, Plan, TWO_VOLUMES};
 use disk_model::Kind::Warc;
+use disk_steps::Step;
 use folder_model::Lock;
 use std::io::ErrorKind;
 
