@@ -4,6 +4,10 @@
 #[cfg(test)]
 mod answers;
 #[cfg(test)]
+mod seats;
+#[cfg(test)]
 mod shelves;
 #[cfg(test)]
 mod turns;
+#[cfg(test)]
+mod waiting;

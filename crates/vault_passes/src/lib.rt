@@ -1,8 +1,14 @@
-//! What the tests of `vault` have in common: a vault over an archive without captures, its passes, and captures that they store.
+//! What the tests of `vault` have in common: a vault over an archive without captures, its passes, captures that they store, and a disk that waits for another thread.
 #![tactic(auto)]
 
-mod captures;
+mod asking;
+mod meeting;
 mod passes;
+mod samples;
+mod waiting_disk;
 
-pub use captures::{FIRST, PAYLOAD, SECOND, different_capture, first_capture, second_capture};
-pub use passes::{StoreAnswer, begun, seated, stored, stored_at, vault_over};
+pub use asking::{StoreAnswer, brings, found, stored, stored_at};
+pub use meeting::Meeting;
+pub use passes::{begun, counted, let_go, seated, vault_over};
+pub use samples::Sample;
+pub use waiting_disk::WaitingDisk;

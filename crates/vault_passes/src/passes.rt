@@ -1,13 +1,12 @@
 //! A vault over an archive without captures, and its passes.
 ghost use Rattle.std.specs.Prelude.{◌≡◌, ◌<◌, ◌≤◌, false, IfSome};
 ghost use Rattle.std.specs.List.{All};
-ghost use Rattle.warc_text.specs.Fits.{Fits};
 ghost use Rattle.vault.specs.Members.{IsMember};
 
 use archive_core::Archive;
 use archive_reopening::reopen;
-use archive_shelf::{Depth, Shelf};
-use capture::{Limits, Taken};
+use archive_shelf::{Counts, Depth};
+use capture::Limits;
 use disk_model::Disk;
 use shown::Shown;
 use std::alloc::Global;
@@ -58,6 +57,16 @@ pub fn seated<'a, J: Naming, R, D: Disk>(
     Some(At::new(rt, vault, pass))
 }
 
+/// The passes that are left are over.
+pub fn let_go(_passes: Vec<VaultPass>) {}
+
+/// How much an archive holds, which is closed, and its disk too.
+pub fn counted<D: Disk + Drop>(archive: Archive<D>) -> Counts {
+    let counts = archive.counts();
+    drop(archive.close());
+    counts
+}
+
 /// A vault round the archive of a disk, with so many passes. `None` where there is no memory, or the disk has no archive.
 pub fn vault_over<R: Wait, D: Disk + Drop>(
     rt: &R,
@@ -73,6 +82,7 @@ pub fn vault_over<R: Wait, D: Disk + Drop>(
     }
 }
 
+/// A vault round an archive. `None` where there is no memory.
 fn round<R: Wait, D: Disk + Drop>(
     rt: &R,
     alloc: Global,
@@ -83,10 +93,14 @@ fn round<R: Wait, D: Disk + Drop>(
 {
     match Unnamed::new(alloc, rt, archive, passes, not_said(rt)) {
         Ok(unnamed) => Some(unnamed),
-        Err(_) => None,
+        Err(archive) => {
+            drop(archive.close());
+            None
+        }
     }
 }
 
+/// What is more than enough for a test.
 fn limits() -> Limits
     ensures { result ≡ record { volume_bytes = 1000000; captures = 100 } }
 {
@@ -94,42 +108,4 @@ fn limits() -> Limits
         volume_bytes: 1_000_000,
         captures: 100,
     }
-}
-
-/// Stores a capture, and says which number it has, and to which one it refers.
-pub fn stored<S: Shelf>(alloc: Global, shelf: &mut S, taken: &Taken) -> StoreAnswer
-    requires { Fits taken.now }
-{
-    match shelf.store(alloc, taken) {
-        Ok(receipt) => StoreAnswer {
-            number: receipt.number,
-            same: receipt.same_as,
-        },
-        Err(_) => StoreAnswer {
-            number: u32::MAX,
-            same: None,
-        },
-    }
-}
-
-/// The same for a pass, which is given back.
-pub fn stored_at<'a, J: Naming, R: Wait, D: Disk>(
-    alloc: Global,
-    mut at: At<'a, R, D, J>,
-    taken: &Taken,
-) -> (At<'a, R, D, J>, StoreAnswer)
-    requires { Fits taken.now }
-{
-    let answer = stored(alloc, &mut at, taken);
-    (at, answer)
-}
-
-/// What a store answered: the capture's number and that of the one that it refers to. Where it was refused, the number is the last
-/// one that there is.
-#[derive(Clone, Copy)]
-pub struct StoreAnswer {
-    /// The capture's number.
-    pub number: u32,
-    /// That of the one that it refers to.
-    pub same: Option<u32>,
 }

@@ -1,4 +1,4 @@
-use Rattle.test_waiting.proofs.waiting.is_asked_between.Given as goal
+use Rattle.test_vault.proofs.waiting.is_asked_between.Given as goal
 
 -- the vault that was just made
 abbrev pub ghosts-met : goal.ghosts-met
