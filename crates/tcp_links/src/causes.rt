@@ -1,10 +1,10 @@
 //! Causes of faults, for the one who started the program.
-use libc::STDERR_FILENO;
-use libc::net::{POLLOUT, poll};
-use libc::types::pollfd;
-use std::fmt::Display;
+use crate::error_lines::put_line;
+use std::fmt::{Display, InlineText};
 use std::io;
-use std::io::Eprint;
+
+/// The most bytes that a line has of what a call was about. A host that a client chose may be longer: its end is left out, so that the cause isn't.
+const SUBJECT: usize = 128;
 
 /// Takes the cause of each fault that an object of the outside counts.
 pub trait Causes {
@@ -13,22 +13,11 @@ pub trait Causes {
     fn tell<D: Display + Drop>(&mut self, what: D, call: &str, error: &io::Error);
 }
 
-/// Whether standard error takes a line at once, or refuses it at once. Where a reader has stood still, as a terminal that is stopped or a pipe that nobody
-/// empties, it does neither.
-fn takes_a_line() -> bool {
-    let mut errors = [pollfd {
-        fd: STDERR_FILENO,
-        events: POLLOUT,
-        revents: 0,
-    }];
-    poll(&mut errors, 0) != 0
-}
-
 /// A line on standard error for each cause, which is no text of a sink's. No exchange waits for it: a line that can't be written at once is left out.
 impl Causes for HostRuntime {
     fn tell<D: Display + Drop>(&mut self, what: D, call: &str, error: &io::Error) {
-        if takes_a_line() {
-            let _told = self.eprintln(format_args!("memproxy: {what}: {call}: {error}"));
-        }
+        let what = InlineText::<SUBJECT>::of(what);
+        let what = what.as_str();
+        put_line(format_args!("memproxy: {what}: {call}: {error}"));
     }
 }

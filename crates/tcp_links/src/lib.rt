@@ -4,6 +4,7 @@
 mod accept_faults;
 mod brackets;
 mod causes;
+mod error_lines;
 mod limits;
 mod lingering;
 mod listening;
@@ -17,6 +18,7 @@ mod worked;
 
 pub use accept_faults::is_memory;
 pub use causes::Causes;
+pub use error_lines::MOST_WRITERS;
 pub use limits::{LIMITS, Limits};
 pub use listening::{Address, LISTEN, where_to_listen};
 pub use network::{MOST_ADDRESSES, Network, Socket};

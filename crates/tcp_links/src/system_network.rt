@@ -3,9 +3,10 @@ ghost use Rattle.std.specs.Prelude.{◌≤◌, length, IfOk};
 ghost use Rattle.std.specs.Iterator.{IsFinite};
 
 use crate::causes::Causes;
+use crate::error_lines::put_line;
 use crate::network::{Network, Socket};
 use std::fmt::Display;
-use std::io::{Eprint, Read, Write};
+use std::io::{Read, Write};
 use std::net::{
     IpAddr, Net, OpenStream, Shutdown, SocketAddr, TcpListener, TcpStream, ToSocketAddrs, UdpSocket,
 };
@@ -91,7 +92,7 @@ impl Network for HostRuntime {
     }
 
     fn announce(&mut self, own: SocketAddr) {
-        let _told = self.eprintln(format_args!("listening on http://{own}"));
+        put_line(format_args!("listening on http://{own}"));
     }
 
     fn is_here(&mut self, address: IpAddr) -> bool {
