@@ -12,6 +12,10 @@ use crate::command_line::{ends_of, lock_of};
 use capture::Memory;
 use proxy_run::CREW;
 use real_outside::{Made, make};
+use tcp_links::MOST_WRITERS;
+
+/// Each member of the crew may write a line on standard error at once, and one who accepts beside them.
+const _: () = prove!(CREW < MOST_WRITERS);
 
 /// The real objects of a run with these words.
 pub(crate) fn objects_for(rt: &HostRuntime, words: &[&str]) -> Result<Made<HostRuntime>, Memory>
