@@ -20,19 +20,23 @@ const LOOK_UPS: u32 = 100_000;
 
 pub fn measure<R: Clock + Files + Print>(rt: &R, alloc: Global) -> Result<(), Stopped> {
     let before = resident(rt, alloc);
-    let (index, random) = added(rt, alloc)?;
-    let bytes = resident(rt, alloc).saturating_sub(before);
-    measure_index(rt, alloc, &index, bytes, random)
+    let entries = entries_of(alloc)?;
+    let start = Measured::start(rt)?;
+    let index = index_of(alloc, entries)?;
+    measure_index(rt, alloc, &index, &start, before)
 }
 
-/// Looks entries up in an index that takes so many bytes, and makes one in order, beside so many nanoseconds for an entry in no order.
-fn measure_index<R: Clock + Print>(
+/// Prints what it took to make the index from the start on, and the memory that is held more than before it, looks entries up in it, and
+/// makes one in order.
+fn measure_index<R: Clock + Files + Print>(
     rt: &R,
     alloc: Global,
     index: &Index,
-    bytes: u64,
-    random: u64,
+    start: &Measured,
+    before: u64,
 ) -> Result<(), Stopped> {
+    let random = start.print(rt, "an entry added in no order", u64::from(ENTRIES))?;
+    let bytes = resident(rt, alloc).saturating_sub(before);
     println!(rt; "memory of an entry: {} bytes", bytes / u64::from(ENTRIES))?;
     look_up(rt, alloc, index)?;
     let in_order = sorted(rt, alloc, index)?;
@@ -51,20 +55,22 @@ fn sorted<R: Clock + Print>(rt: &R, alloc: Global, index: &Index) -> Result<u64,
     let list = copies(alloc, index)?;
     let start = Measured::start(rt)?;
     let sorted = Index::of_sorted(alloc, list)?;
+    print_sorted(rt, &start, sorted)
+}
+
+/// Prints how long it took to make this index, and then lets it go.
+fn print_sorted<R: Clock + Print>(rt: &R, start: &Measured, sorted: Index) -> Result<u64, Stopped> {
     start.print(rt, "an index of entries in order", sorted.len() as u64)
 }
 
-/// Adds entries in no order, neither of keys nor of numbers, and gives the time of one in nanoseconds.
-fn added<R: Clock + Print>(rt: &R, alloc: Global) -> Result<(Index, u64), Stopped> {
+/// Entries in no order, neither of keys nor of numbers.
+fn entries_of(alloc: Global) -> Result<Vec<Entry>, Memory> {
     let mut entries = Vec::with_capacity(alloc, ENTRIES as usize)?;
     for i in 0..ENTRIES {
         let number = shuffled(i, ENTRIES);
         entries.push(entry_of(alloc, shuffled(number, ENTRIES), number)?)?;
     }
-    let start = Measured::start(rt)?;
-    let index = index_of(alloc, entries)?;
-    let mean = start.print(rt, "an entry added in no order", u64::from(ENTRIES))?;
-    Ok((index, mean))
+    Ok(entries)
 }
 
 /// The index of the entries, of those with one number the first.
@@ -78,18 +84,29 @@ fn index_of(alloc: Global, entries: Vec<Entry>) -> Result<Index, Memory> {
     Ok(index)
 }
 
-fn look_up<R: Clock + Print>(rt: &R, alloc: Global, index: &Index) -> Result<(), Stopped> {
-    let mut keys = Vec::new(alloc);
+/// Looks keys up in the index.
+fn look_up<R: Clock + Print>(rt: &R, alloc: Global, index: &Index) -> Result<u64, Stopped> {
+    let keys = keys_of(alloc)?;
+    look_up_keys(rt, index, keys.as_slice())
+}
+
+/// Keys of entries, in no order.
+fn keys_of(alloc: Global) -> Result<Vec<Key>, Memory> {
+    let mut keys = Vec::with_capacity(alloc, LOOK_UPS as usize)?;
     for i in 0..LOOK_UPS {
         let uri = url_of(alloc, shuffled(i, ENTRIES))?;
         if let Ok(key) = key_of(alloc, uri.as_bytes()) {
             keys.push(key)?;
         }
     }
+    Ok(keys)
+}
+
+/// Looks these keys up.
+fn look_up_keys<R: Clock + Print>(rt: &R, index: &Index, keys: &[Key]) -> Result<u64, Stopped> {
     let start = Measured::start(rt)?;
-    let found = found_of::<Brand>(index, keys.as_slice(), Blank::new(1));
-    start.print(rt, "nearest", found)?;
-    Ok(())
+    let found = found_of::<Brand>(index, keys, Blank::new(1));
+    start.print(rt, "nearest", found)
 }
 
 /// How many of the keys have an entry.
@@ -99,10 +116,13 @@ fn found_of<L: Ledger>(index: &Index, keys: &[Key], blank: Blank) -> u64
     requires some { 0 < L.parts }
 {
     let mut steps = Steps::<L>::new(blank);
-    let found = keys
-        .iter()
-        .filter(|key| index.nearest(key, NOON, &mut steps).is_some());
-    found.count() as u64
+    let mut found = 0u64;
+    for key in keys {
+        if index.nearest(key, NOON, &mut steps).is_some() {
+            found = found.saturating_add(1);
+        }
+    }
+    found
 }
 
 /// Copies of all entries, in order.

@@ -4,6 +4,7 @@
 //! stands its ratio to a plain loop over the same bytes in the same run.
 #![tactic(auto)]
 
+mod copies;
 mod digests;
 mod groups;
 mod heads;

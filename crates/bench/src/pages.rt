@@ -1,4 +1,5 @@
 //! Pages: what it costs to lead the links of one to the archive.
+use crate::copies::{print_rate, time_of_copy};
 use capture::{Memory, Site, Text};
 use html_rewrite::rewrite;
 use measuring::{Measured, NOON, Stopped};
@@ -23,14 +24,8 @@ pub fn measure<R: Clock + Print>(rt: &R, alloc: Global) -> Result<(), Stopped> {
 /// Rewrites the page and copies it.
 fn measure_page<R: Clock + Print>(rt: &R, alloc: Global, page: &[u8]) -> Result<(), Stopped> {
     let rewritten = rewritten_at(rt, alloc, page)?;
-    let copied = copied(rt, alloc, page)?;
-    let rate = (page.len() as u64).saturating_mul(1_000);
-    println!(rt;
-        "{} MB/s, {} times the copy",
-        rate.checked_div(rewritten).unwrap_or(0),
-        rewritten.checked_div(copied).unwrap_or(0)
-    )?;
-    Ok(())
+    let copied = time_of_copy(rt, alloc, "the same page copied", page, TIMES)?;
+    print_rate(rt, page.len(), rewritten, copied)
 }
 
 /// The nanoseconds that it takes to rewrite the page at the archive's own site.
@@ -54,15 +49,6 @@ fn rewritten<R: Clock + Print>(
         "a page of 1 MB with 5,000 links rewritten",
         u64::from(TIMES),
     )
-}
-
-/// The nanoseconds that it takes to copy the page.
-fn copied<R: Clock + Print>(rt: &R, alloc: Global, page: &[u8]) -> Result<u64, Stopped> {
-    let start = Measured::start(rt)?;
-    for _ in 0..TIMES {
-        Vec::from_slice(alloc, page)?;
-    }
-    start.print(rt, "the same page copied", u64::from(TIMES))
 }
 
 /// A page of 1,000,000 bytes.

@@ -1,4 +1,5 @@
 //! Queries: what it costs to answer one.
+use crate::copies::{print_rate, time_of_copy};
 use capture::Memory;
 use cdx_query::{Query, QueryFault, answer, read_query};
 use cdxj_index::Entry;
@@ -29,19 +30,19 @@ fn measure_forms<R: Clock + Print>(
     alloc: Global,
     entries: &[Entry],
 ) -> Result<(), Stopped> {
-    println!(rt; "lines:")?;
-    measure_text(rt, alloc, LINES, entries)?;
-    println!(rt; "JSON:")?;
-    measure_text(rt, alloc, JSON, entries)
+    measure_form(rt, alloc, "lines:", LINES, entries)?;
+    measure_form(rt, alloc, "JSON:", JSON, entries)
 }
 
-/// Answers the query of this text.
-fn measure_text<R: Clock + Print>(
+/// Answers the query of this text, behind a line that tells the form of its answer.
+fn measure_form<R: Clock + Print>(
     rt: &R,
     alloc: Global,
+    form: &str,
     text: &[u8],
     entries: &[Entry],
 ) -> Result<(), Stopped> {
+    println!(rt; "{form}")?;
     let query = query_of(alloc, text)?;
     measure_query(rt, alloc, &query, entries)
 }
@@ -96,21 +97,6 @@ fn print_answered<R: Clock + Print>(
     text: &[u8],
 ) -> Result<(), Stopped> {
     let taken = taken?;
-    let copied = copied(rt, alloc, text)?;
-    let rate = (text.len() as u64).saturating_mul(1_000);
-    println!(rt;
-        "{} MB/s, {} times the copy",
-        rate.checked_div(taken).unwrap_or(0),
-        taken.checked_div(copied).unwrap_or(0)
-    )?;
-    Ok(())
-}
-
-/// The nanoseconds that a copy of the text takes.
-fn copied<R: Clock + Print>(rt: &R, alloc: Global, text: &[u8]) -> Result<u64, Stopped> {
-    let start = Measured::start(rt)?;
-    for _ in 0..TIMES {
-        Vec::from_slice(alloc, text)?;
-    }
-    start.print(rt, "the same answer copied", u64::from(TIMES))
+    let copied = time_of_copy(rt, alloc, "the same answer copied", text, TIMES)?;
+    print_rate(rt, text.len(), taken, copied)
 }

@@ -10,24 +10,23 @@ use std::rt::{Clock, Files};
 const PIECE: usize = 16_384;
 
 /// A kind of response, and the head of one.
-#[derive(Clone, Copy)]
 struct Kind {
     name: &'static str,
     head: &'static [u8],
 }
 
 /// A response whose length is told, one up to the end, and one in chunks.
-const TOLD: Kind = Kind {
+static TOLD: Kind = Kind {
     name: "a response of 64 MiB, its length told",
     head: b"HTTP/1.1 200 OK\r\nContent-Length: 67108864\r\n\r\n",
 };
 
-const TO_END: Kind = Kind {
+static TO_END: Kind = Kind {
     name: "one up to the end",
     head: b"HTTP/1.1 200 OK\r\n\r\n",
 };
 
-const CHUNKED: Kind = Kind {
+static CHUNKED: Kind = Kind {
     name: "one in chunks of 16 KiB",
     head: b"HTTP/1.1 200 OK\r\nTransfer-Encoding: chunked\r\n\r\n",
 };
@@ -43,10 +42,10 @@ fn measure_all<R: Clock + Files + Print>(
     alloc: Global,
     piece: &[u8],
 ) -> Result<(), Stopped> {
-    measure_one(rt, alloc, TOLD, piece)?;
-    measure_one(rt, alloc, TO_END, piece)?;
+    measure_one(rt, alloc, &TOLD, piece)?;
+    measure_one(rt, alloc, &TO_END, piece)?;
     let chunk = chunk_of(alloc, piece)?;
-    measure_one(rt, alloc, CHUNKED, chunk.as_slice())
+    measure_one(rt, alloc, &CHUNKED, chunk.as_slice())
 }
 
 /// The piece as a chunk.
@@ -61,7 +60,7 @@ fn chunk_of(alloc: Global, piece: &[u8]) -> Result<Vec<u8>, Memory> {
 fn measure_one<R: Clock + Files + Print>(
     rt: &R,
     alloc: Global,
-    kind: Kind,
+    kind: &Kind,
     piece: &[u8],
 ) -> Result<(), Stopped> {
     let mut reader = ResponseReader::new(alloc, false);
@@ -73,7 +72,7 @@ fn measure_reader<R: Clock + Files + Print>(
     rt: &R,
     alloc: Global,
     reader: &mut ResponseReader,
-    kind: Kind,
+    kind: &Kind,
     piece: &[u8],
 ) -> Result<(), Stopped> {
     let before = resident(rt, alloc);
@@ -81,13 +80,23 @@ fn measure_reader<R: Clock + Files + Print>(
     read(alloc, reader, kind.head, piece)?;
     let nanos = start.nanos(rt)?;
     let held = resident(rt, alloc).saturating_sub(before);
-    reader.end()?;
-    let response = reader.take();
-    print_read(rt, kind.name, nanos, held, response.wire.as_slice())
+    print_read(rt, kind.name, nanos, held, reader)
 }
 
-/// Prints how long it took to read the bytes of a body, and how much memory was held then.
+/// Prints how long it took to read the bytes of a body that this reader has whole, and how much memory was held then.
 fn print_read<R: Clock + Print>(
+    rt: &R,
+    what: &str,
+    nanos: u64,
+    held: u64,
+    reader: &mut ResponseReader,
+) -> Result<(), Stopped> {
+    reader.end()?;
+    let response = reader.take();
+    print_wire(rt, what, nanos, held, response.wire.as_slice())
+}
+
+fn print_wire<R: Clock + Print>(
     rt: &R,
     what: &str,
     nanos: u64,

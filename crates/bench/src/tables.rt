@@ -4,7 +4,7 @@ ghost use Rattle.std.specs.Prelude.{◌<◌, ◌+◌, All, OnOk};
 use capture::{Digest, Memory};
 use digest32::payload_digest;
 use measuring::{Measured, Stopped, print_beside, time_of};
-use name_table::hop_by_hop_fields;
+use name_table::{NameTable, hop_by_hop_fields};
 use revisit_table::Digests;
 use std::alloc::Global;
 use std::io::Print;
@@ -49,8 +49,20 @@ fn measure_table<R: Clock + Print>(
     digests: &[Digest],
 ) -> Result<(), Stopped> {
     let table = table_of(alloc, digests)?;
-    let (found, nanos) = looked_up(rt, &table, digests)?;
-    let plain = time_of(rt, joined(alloc, digests)?.as_slice(), 1)?;
+    look_up(rt, alloc, &table, digests)
+}
+
+/// Looks each of these digests up in this table.
+fn look_up<R: Clock + Print>(
+    rt: &R,
+    alloc: Global,
+    table: &Digests,
+    digests: &[Digest],
+) -> Result<(), Stopped> {
+    let start = Measured::start(rt)?;
+    let found = captures_found(table, digests);
+    let nanos = start.nanos(rt)?;
+    let plain = time_of_plain(rt, alloc, digests)?;
     print_beside(
         rt,
         "a digest looked up among 1,000,000",
@@ -60,15 +72,23 @@ fn measure_table<R: Clock + Print>(
     )
 }
 
-/// How many captures of these digests the table has, and the nanoseconds that it took to look them up.
-fn looked_up<R: Clock>(rt: &R, table: &Digests, digests: &[Digest]) -> Result<(u64, u64), Stopped> {
+/// How many captures of these digests the table has.
+fn captures_found(table: &Digests, digests: &[Digest]) -> u64 {
     let mut found = 0u64;
-    let start = Measured::start(rt)?;
     for digest in digests {
         found = found.saturating_add(table.candidates(digest).len() as u64);
     }
-    let nanos = start.nanos(rt)?;
-    Ok((found, nanos))
+    found
+}
+
+/// The nanoseconds that a plain loop over the bytes of these digests takes.
+fn time_of_plain<R: Clock + Print>(
+    rt: &R,
+    alloc: Global,
+    digests: &[Digest],
+) -> Result<u64, Stopped> {
+    let text = joined(alloc, digests)?;
+    time_of(rt, text.as_slice(), 1)
 }
 
 /// Digests in no order.
@@ -114,21 +134,40 @@ fn joined(alloc: Global, digests: &[Digest]) -> Result<Vec<u8>, Memory> {
 }
 
 fn measure_names<R: Clock + Print>(rt: &R, alloc: Global) -> Result<(), Stopped> {
-    let table = hop_by_hop_fields();
-    let mut text = Vec::new(alloc);
-    for name in &NAMES {
-        text.extend_from_slice(name.as_bytes())?;
-    }
-    let mut found = 0u64;
+    let text = joined_names(alloc)?;
+    look_up_names(rt, &hop_by_hop_fields(), text.as_slice())
+}
+
+/// Looks each of the names up in this table, beside a plain loop over their text.
+fn look_up_names<R: Clock + Print>(
+    rt: &R,
+    table: &NameTable<10>,
+    text: &[u8],
+) -> Result<(), Stopped> {
     let start = Measured::start(rt)?;
+    let found = names_found(table);
+    let nanos = start.nanos(rt)?;
+    println!(rt; "names that no proxy passes on: {found}")?;
+    let plain = time_of(rt, text, TIMES)?;
+    let items = u64::from(TIMES).saturating_mul(NAMES.len() as u64);
+    print_beside(rt, "a name looked up among 10", items, nanos, plain)
+}
+
+/// How often a name was found.
+fn names_found(table: &NameTable<10>) -> u64 {
+    let mut found = 0u64;
     for _ in 0..TIMES {
         for name in &NAMES {
             found = found.saturating_add(u64::from(table.has(name.as_bytes())));
         }
     }
-    let nanos = start.nanos(rt)?;
-    println!(rt; "names that no proxy passes on: {found}")?;
-    let plain = time_of(rt, text.as_slice(), TIMES)?;
-    let items = u64::from(TIMES).saturating_mul(NAMES.len() as u64);
-    print_beside(rt, "a name looked up among 10", items, nanos, plain)
+    found
+}
+
+fn joined_names(alloc: Global) -> Result<Vec<u8>, Memory> {
+    let mut text = Vec::new(alloc);
+    for name in &NAMES {
+        text.extend_from_slice(name.as_bytes())?;
+    }
+    Ok(text)
 }

@@ -4,8 +4,10 @@
 //! another's in the same run.
 #![tactic(auto)]
 
+mod loads;
 mod passes;
 mod shared;
+mod vaults;
 
 use measuring::Stopped;
 use std::alloc::Global;

@@ -1,14 +1,14 @@
 //! A vault round a large archive: what it keeps of a capture, and what a query and a store cost beside the archive alone.
-ghost use Rattle.std.specs.Prelude.{◌≡◌, ◌<◌, ◌≤◌, false};
+ghost use Rattle.std.specs.Prelude.{◌≡◌, ◌<◌, ◌≤◌};
 ghost use Rattle.vault.specs.Members.{IsMember};
 
-use crate::passes::{begun, take_pass};
+use crate::vaults::{begun, take_pass, vault_of};
 use archive_core::Archive;
 use archive_shelf::{Depth, Finder, Shelf};
 use bench_stock::{CONNECTION, Connection, Stock, opened, site};
+use capture::Memory;
 use disk_model::{Disk, MemoryDisk};
 use measuring::{Measured, NOON, Stopped, print_share, resident, shuffled, url_of};
-use shown::Shown;
 use std::alloc::Global;
 use std::io::Print;
 use std::marker::Brand;
@@ -16,7 +16,6 @@ use std::rt::{Clock, Files};
 use std::sync::Wait;
 use surt_key::{Key, key_of};
 use vault::{At, Naming, Unnamed, Vault, VaultPass};
-use vault_turns::Sure;
 
 /// What the archive has.
 const STOCK: Stock = Stock {
@@ -57,7 +56,7 @@ fn measure_keys<R: Clock + Files + Print + Wait>(
     let mut archive = opened(alloc, disk, VOLUME, Depth::Whole)?;
     let alone = costs_alone(rt, alloc, &mut archive, keys, before);
     let company = costs_in_vault(rt, alloc, archive, keys, before);
-    print_costs(rt, &alone?, &company?)
+    print_costs(rt, alone, company)
 }
 
 /// What the keys and a store cost an archive alone. Before it was opened so many bytes were in use.
@@ -81,14 +80,10 @@ fn costs_in_vault<R: Clock + Files + Print + Wait>(
     keys: &[Key],
     before: u64,
 ) -> Result<Costs, Stopped> {
-    match Unnamed::new(alloc, rt, archive, PASSES, not_said(rt)) {
-        Ok(unnamed) => {
-            let bytes = resident(rt, alloc).saturating_sub(before);
-            let costs = in_vault::<R, MemoryDisk, Brand>(rt, alloc, unnamed, keys);
-            behind_memory(rt, bytes, costs)
-        }
-        Err(_) => Err(Stopped::Memory),
-    }
+    let unnamed = vault_of(rt, alloc, archive, PASSES)?;
+    let bytes = resident(rt, alloc).saturating_sub(before);
+    let costs = in_vault::<R, MemoryDisk, Brand>(rt, alloc, unnamed, keys);
+    behind_memory(rt, bytes, costs)
 }
 
 /// These costs, behind a line that tells how many bytes a vault took.
@@ -102,15 +97,6 @@ fn behind_memory<R: Print>(
     Ok(costs)
 }
 
-/// It isn't said what a crash may leave of the archive.
-pub(crate) fn not_said<R>(rt: &R) -> Shown<Sure>
-    ensures calm { result.value.calm ≡ false }
-    ensures right { result.value.right ≡ false }
-    ensures lasts { result.value.lasts ≡ false }
-{
-    Shown::told_by(rt)
-}
-
 /// Prints how many bytes of these are held of a capture.
 fn print_memory<R: Print>(rt: &R, what: &str, bytes: u64) -> Result<(), Stopped> {
     let mean = bytes.checked_div(u64::from(STOCK.count())).unwrap_or(0);
@@ -118,7 +104,15 @@ fn print_memory<R: Print>(rt: &R, what: &str, bytes: u64) -> Result<(), Stopped>
     Ok(())
 }
 
-fn print_costs<R: Print>(rt: &R, alone: &Costs, company: &Costs) -> Result<(), Stopped> {
+fn print_costs<R: Print>(
+    rt: &R,
+    alone: Result<Costs, Stopped>,
+    company: Result<Costs, Stopped>,
+) -> Result<(), Stopped> {
+    print_both(rt, &alone?, &company?)
+}
+
+fn print_both<R: Print>(rt: &R, alone: &Costs, company: &Costs) -> Result<(), Stopped> {
     println!(rt;
         "by_date: {} ns in an archive alone, {} ns through a view",
         alone.found / u64::from(LOOK_UPS),
@@ -130,22 +124,26 @@ fn print_costs<R: Print>(rt: &R, alone: &Costs, company: &Costs) -> Result<(), S
         company.found,
         alone.found,
     )?;
+    print_stores(rt, alone.stored, company.stored)
+}
+
+fn print_stores<R: Print>(rt: &R, alone: u64, company: u64) -> Result<(), Stopped> {
     println!(rt;
         "a store: {} ns in an archive alone, {} ns with its turns and its publication",
-        alone.stored / u64::from(CONNECTION),
-        company.stored / u64::from(CONNECTION)
+        alone / u64::from(CONNECTION),
+        company / u64::from(CONNECTION)
     )?;
     print_share(
         rt,
         "a store with its turns and its publication, of one alone",
-        company.stored,
-        alone.stored,
+        company,
+        alone,
     )
 }
 
 /// Keys that are found, in no order.
-fn keys_of(alloc: Global) -> Result<Vec<Key>, Stopped> {
-    let mut keys = Vec::new(alloc);
+fn keys_of(alloc: Global) -> Result<Vec<Key>, Memory> {
+    let mut keys = Vec::with_capacity(alloc, LOOK_UPS as usize)?;
     for i in 0..LOOK_UPS {
         let uri = url_of(alloc, shuffled(i, STOCK.count()))?;
         if let Ok(key) = key_of(alloc, uri.as_bytes()) {
@@ -166,10 +164,22 @@ fn costs_of<R: Clock, S: Shelf>(
     requires { from ≤ 2000000 }
 {
     let found = found_by(rt, alloc, shelf, keys)?;
-    let connection = Connection::new(alloc, from)?;
-    let site = site(alloc)?;
-    let stored = connection.serve_timed(rt, alloc, shelf, &site)?;
+    let stored = stored_from(rt, alloc, shelf, from)?;
     Ok(Costs { found, stored })
+}
+
+/// Stores over a connection, from this exchange of the load on, and gives the nanoseconds that this took.
+fn stored_from<R: Clock, S: Shelf>(
+    rt: &R,
+    alloc: Global,
+    shelf: &mut S,
+    from: u32,
+) -> Result<u64, Stopped>
+    requires { from ≤ 2000000 }
+{
+    let site = site(alloc)?;
+    let connection = Connection::new(alloc, from)?;
+    connection.serve_timed(rt, alloc, shelf, &site)
 }
 
 /// Looks all keys up, and gives the nanoseconds that this took.
@@ -180,18 +190,24 @@ fn found_by<R: Clock, F: Finder>(
     keys: &[Key],
 ) -> Result<u64, Stopped> {
     let start = Measured::start(rt)?;
-    let mut found = 0usize;
-    for key in keys {
-        if finds(alloc, finder, key) {
-            found = found.saturating_add(1);
-        }
-    }
+    let found = count_found(alloc, finder, keys);
     let nanos = start.nanos(rt)?;
     if found == keys.len() {
         Ok(nanos)
     } else {
         Err(Stopped::Archive)
     }
+}
+
+/// How many of the keys are found.
+fn count_found<F: Finder>(alloc: Global, finder: &mut F, keys: &[Key]) -> usize {
+    let mut found = 0usize;
+    for key in keys {
+        if finds(alloc, finder, key) {
+            found = found.saturating_add(1);
+        }
+    }
+    found
 }
 
 fn finds<F: Finder>(alloc: Global, finder: &mut F, key: &Key) -> bool {

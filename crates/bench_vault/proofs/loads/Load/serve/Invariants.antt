@@ -1,4 +1,4 @@
-use Rattle.bench_vault.proofs.passes.Server.serve_all.Given as goal
+use Rattle.bench_vault.proofs.loads.Load.serve.Given as goal
 
 -- how many connections are left
 abbrev pub decreases-loop-connection : goal.decreases-loop-connection

@@ -1,7 +1,7 @@
 use Rattle.std.proofs.Common.{ℕ, ◌<◌, ◌∙◌, ap, subst, sym}
 use Rattle.vault.specs.Members.{VaultName}
 use Rattle.vault.proofs.MemberLaws.{members_all}
-use Rattle.bench_vault.proofs.passes.begun.Goals as goal
+use Rattle.bench_vault.proofs.vaults.begun.Goals as goal
 
 pub returns-clause-passes : goal.returns-clause-passes
 returns-clause-passes g c = members_all g.J.Naming.vault c.named.result.1.items c.named.ensures.passes

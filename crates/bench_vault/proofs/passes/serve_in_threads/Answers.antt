@@ -2,7 +2,7 @@ use denote.Ref.{NamedLft}
 use denote.Param.Send.{sendable}
 use Rattle.std.proofs.Crossing.{crosses}
 use Rattle.bench_vault.proofs.Moving.{server_send}
-use Rattle.bench_vault.proofs.passes.serve_beside.Goals as goal
+use Rattle.bench_vault.proofs.passes.serve_in_threads.Goals as goal
 
 pub for_each_mut-requires-send-T : goal.for_each_mut-requires-send-T
 for_each_mut-requires-send-T g c κs within =
