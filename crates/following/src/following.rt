@@ -5,8 +5,7 @@ ghost use Rattle.archive_opening.specs.Telling.{MayBeSettled};
 ghost use Rattle.archive_reopening.specs.Known.{by_checkpoints};
 ghost use Rattle.command.specs.Objects.{objects_of};
 ghost use Rattle.command.specs.Opening.{IsNotOpened};
-ghost use Rattle.command.specs.Printing.{LacksMemory, Prints, printed_as};
-ghost use Rattle.command.specs.Texts as text;
+ghost use Rattle.command.specs.Printing.{printed_as};
 ghost use Rattle.command.specs.Words as word;
 ghost use Rattle.replica.specs.Sources.{source_of as spec_source_of};
 ghost use Rattle.warc_text.specs.Ids.{IsUuid};
@@ -15,7 +14,7 @@ use crate::telling::tell_stop;
 use archive_core::Archive;
 use archive_shelf::Depth;
 use capture::{Memory, Site};
-use command::{Command, Known, Ran, Status, asked_of, captures_line, open, print_as};
+use command::{Command, Known, Ran, Status, asked_of, open, print_count};
 use disk_model::Disk;
 use exchange::Window;
 use outside::{Clock, Dialer, Sink};
@@ -76,17 +75,7 @@ fn follow_site<D: Disk, N: Dialer, O: Sink>(
         Err(Memory) => return Status::Memory,
     };
     match follow_source(alloc, archive, dialer, &mut window, &source) {
-        Ok(()) => print_count(alloc, out, archive.counts().captures),
+        Ok(()) => print_count(alloc, out, archive.counts().captures, Status::Done),
         Err(stop) => tell_stop(alloc, out, stop),
-    }
-}
-
-/// Prints how many captures an archive has, unless there is no memory.
-fn print_count<O: Sink>(alloc: Global, out: &mut O, count: u32) -> Status
-    ensures { Prints O.Sink Status.Done (text.captures_line count) out.old out.new result ⊎ LacksMemory O.Sink out.old out.new result }
-{
-    match captures_line(alloc, count) {
-        Ok(text) => print_as(out, text.as_slice(), Status::Done),
-        Err(Memory) => Status::Memory,
     }
 }
