@@ -1,4 +1,4 @@
-//! Shelves of one vault: each finds and brings what the other one stored.
+//! Shelves of one vault: each finds, brings and ships what the other one stored.
 ghost use Rattle.std.specs.Prelude.{◌≡◌};
 
 use crate::answers::{are_first_and_second, has_both};
@@ -11,10 +11,10 @@ use std::marker::Brand;
 use std::process::Abort;
 use std::sync::Wait;
 use vault::{Naming, Unnamed};
-use vault_passes::{Sample, begun, brings, counted, found, stored, vault_over};
+use vault_passes::{Sample, begun, brings, counted, found, ship_alike, stored, vault_over};
 
 #[test]
-fn shelves_find_and_bring_what_others_stored(rt: HostRuntime) {
+fn shelves_find_bring_and_ship_what_others_stored(rt: HostRuntime) {
     both_shelved(&rt, rt.alloc());
 }
 
@@ -40,11 +40,12 @@ fn stored_by_shelves<J: Naming, R: Wait + Abort, D: Disk>(
     let (mut first, mut second) = two_seated::<J, R, D>(rt, &vault, passes);
     assert!(rt; first.number() == 1 && second.number() == 2);
     store_and_find(rt, alloc, &mut first, &mut second);
-    let all = vault.join(first.into_pass(), second.into_pass());
+    let mut all = vault.join(first.into_pass(), second.into_pass());
+    vault.flush(rt, alloc, &mut all);
     vault.close(rt, all)
 }
 
-/// Each of two shelves stores a capture, and finds and brings that of the other.
+/// Each of two shelves stores a capture, and finds, brings and ships that of the other.
 fn store_and_find<R: Abort, S: Shelf>(rt: &R, alloc: Global, first: &mut S, second: &mut S) {
     let own = stored(alloc, first, Sample::First);
     assert!(rt; found(alloc, first, Sample::First) == Some(0));
@@ -54,4 +55,5 @@ fn store_and_find<R: Abort, S: Shelf>(rt: &R, alloc: Global, first: &mut S, seco
     assert!(rt; found(alloc, first, Sample::Second) == Some(1));
     assert!(rt; brings(alloc, second, 0, Sample::First));
     assert!(rt; brings(alloc, first, 1, Sample::Second));
+    assert!(rt; ship_alike(alloc, first, second, 0) && ship_alike(alloc, second, first, 1));
 }

@@ -82,3 +82,19 @@ pub fn brings<S: Shelf>(alloc: Global, shelf: &mut S, number: u32, sample: Sampl
         Err(_) => false,
     }
 }
+
+/// Whether two shelves give the same piece of the capture with this number.
+pub fn ship_alike<S: Shelf>(alloc: Global, one: &mut S, other: &mut S, number: u32) -> bool {
+    match one.piece(alloc, number) {
+        Ok(piece) => ships(alloc, other, number, piece.as_slice()),
+        Err(_) => false,
+    }
+}
+
+/// Whether a shelf gives this piece of the capture with this number.
+fn ships<S: Shelf>(alloc: Global, shelf: &mut S, number: u32, bytes: &[u8]) -> bool {
+    match shelf.piece(alloc, number) {
+        Ok(piece) => piece.as_slice() == bytes,
+        Err(_) => false,
+    }
+}

@@ -7,7 +7,7 @@ mod passes;
 mod samples;
 mod waiting_disk;
 
-pub use asking::{StoreAnswer, brings, found, stored, stored_at};
+pub use asking::{StoreAnswer, brings, found, ship_alike, stored, stored_at};
 pub use meeting::Meeting;
 pub use passes::{begun, counted, let_go, seated, vault_over};
 pub use samples::Sample;
