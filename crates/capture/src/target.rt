@@ -36,6 +36,7 @@ pub fn accepted_url(alloc: Global, target: &[u8]) -> Result<Option<Url>, Memory>
     }
 }
 
+/// Whether this is the text of a target: `http://` and an authority that names a host and no user, in bytes of a target.
 fn is_http_target(target: &[u8]) -> bool
     ensures { result ≡ spec.is_http_target target.now }
 {
@@ -47,6 +48,7 @@ fn is_http_target(target: &[u8]) -> bool
     is_plain_authority(authority)
 }
 
+/// Whether the scheme is `http`, in any case (RFC 3986, section 3.1).
 fn begins_with_http(target: &[u8]) -> bool
     ensures value { result ≡ spec.begins_with_http target.now }
     ensures room { IsTrue result → 7 ≤ length target.now }
@@ -66,12 +68,14 @@ pub fn is_target_text(target: &[u8]) -> bool
     target.iter().all(|b| is_target_byte(*b))
 }
 
+/// Whether the byte may stand in a target.
 fn is_target_byte(b: u8) -> bool
     ensures { result ≡ spec.is_target_byte b }
 {
     b >= 33 && b <= 126 && !b"\"<>\\#".contains(&b)
 }
 
+/// Whether the byte may stand in an authority: it isn't one that ends it (RFC 3986, section 3.2).
 fn is_authority_byte(b: u8) -> bool
     ensures { result ≡ spec.is_authority_byte b }
 {
@@ -87,6 +91,7 @@ pub fn authority_len(rest: &[u8]) -> usize
     rest.iter().take_while(|&&b| is_authority_byte(b)).count()
 }
 
+/// Whether the authority is one to connect to: not empty, and without user information.
 fn is_plain_authority(authority: &[u8]) -> bool
     ensures { result ≡ spec.is_plain_authority authority.now }
 {

@@ -3,7 +3,7 @@ ghost use Rattle.std.specs.Prelude.{◌≡◌, ◌≤◌, ℕ, List, IfOk, IfSom
 ghost use Rattle.fixity.specs.Faults.{CountsDisk};
 ghost use Rattle.fixity.specs.steps.Files.{IsIn, file_in};
 ghost use Rattle.fixity.specs.steps.Nexts.{IsInfoEnd};
-ghost use Rattle.warc_scan.specs.InfoParts.{most_bytes};
+ghost use Rattle.warc_text.specs.Records.{info_most};
 
 use crate::FixityFault;
 use crate::due::Due;
@@ -13,9 +13,7 @@ use disk_model::Disk;
 use std::alloc::Global;
 use uuid::Uuid;
 use warc_scan::{InfoStep, next_info};
-
-/// No warcinfo has more bytes.
-const MOST_BYTES: u64 = 512;
+use warc_text::INFO_MOST;
 
 /// Where the warcinfo of the volume ends, if it stands there, in this namespace.
 pub fn read_info<D: Disk>(
@@ -30,7 +28,7 @@ pub fn read_info<D: Disk>(
     ensures reading { IsTrue D.tells → D.reading disk.new ≡ D.reading disk.old }
     ensures faults { CountsDisk (D.faults disk.old) (D.faults disk.new) result }
 {
-    let bytes = read_bytes(alloc, disk, due, 0, MOST_BYTES)?;
+    let bytes = read_bytes(alloc, disk, due, 0, INFO_MOST)?;
     Ok(info_end(alloc, bytes.as_slice(), due.len, due.volume, namespace)?)
 }
 
@@ -44,7 +42,7 @@ fn info_end(
     namespace: &Uuid,
 ) -> Result<Option<u64>, Memory>
     requires within { length bytes.now ≤ room }
-    requires enough { min most_bytes room ≤ length bytes.now }
+    requires enough { min info_most room ≤ length bytes.now }
     ensures info { (rest : List ℕ) → length rest ≡ room → bytes.now ≡ take (length bytes.now) rest
         → IfOk result (IsInfoEnd volume namespace.now rest) }
     ensures fits { IfOk result (λ end. IfSome end (λ end. end ≤ length bytes.now)) }

@@ -5,7 +5,7 @@ ghost use Rattle.disk_model.specs.Crash.{Torn, Cut, OnFile, Within, Follows, Ste
 ghost use Rattle.disk_model.specs.Image.{file_count, with_file, written};
 ghost use Rattle.disk_model.specs.Moments.{AddsOnly};
 ghost use Rattle.capture.specs.Tails.{IsCommitted, IsRest};
-ghost use Rattle.gated_file.specs.Files.{bytes_of, text_of, IsEnded, IsKnown, KeepsText, IsFinished, IsAdded, IsEither};
+ghost use Rattle.gated_file.specs.Files.{bytes_of, text_of, IsWithin, IsEnded, IsKnown, KeepsText, IsFinished, IsAdded, IsEither};
 ghost use Rattle.gated_file.specs.steps.Mending.{rest_of, IsSynced};
 
 use capture::Failed;
@@ -67,6 +67,13 @@ impl GatedFile {
         ensures known { IsTrue D.tells → IsKnown self.old (D.reading disk.old) (D.images disk.old)
             → IsKnown self.new (D.reading disk.new) (D.images disk.new) }
 
+        // How long the file gets: no longer than it was, or than it has to be for the text.
+        ensures within { IsTrue D.tells → (most : ℕ) → IsWithin self.old most (D.reading disk.old)
+            → self.old.end + length text.now ≤ most → IsWithin self.old most (D.reading disk.new) }
+        ensures leaves_within { IsTrue D.tells → (most : ℕ) → IsKnown self.old (D.reading disk.old) (D.images disk.old)
+            → IsWithin self.old most (D.reading disk.old) → self.old.end + length text.now ≤ most
+            → AddsOnly D.moment D.images_since disk.old disk.new (IsWithin self.old most) }
+
         // How much the moment goes on: by the three steps, and by the mending of a file that is dirty.
         ensures quick { D.moment disk.new ≤ D.moment disk.old + (if self.old.is_dirty then 13 else 6) }
 
@@ -103,6 +110,12 @@ impl GatedFile {
         ensures only { IsTrue D.tells → OnOk result (Leaves (D.images disk.new)
             (IsAdded self.old (D.reading disk.old) (D.images disk.old) [])) }
         ensures known { IsTrue D.tells → IsKnown self.new (D.reading disk.new) (D.images disk.new) }
+
+        // How long the file gets: no longer than it was.
+        ensures within { IsTrue D.tells → (most : ℕ) → IsWithin self.old most (D.reading disk.old)
+            → IsWithin self.old most (D.reading disk.new) }
+        ensures leaves_within { IsTrue D.tells → (most : ℕ) → IsWithin self.old most (D.reading disk.old)
+            → AddsOnly D.moment D.images_since disk.old disk.new (IsWithin self.old most) }
 
         ensures quick { D.moment disk.new ≤ D.moment disk.old + 7 }
 

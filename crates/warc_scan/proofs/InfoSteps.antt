@@ -6,11 +6,11 @@ use Rattle.time_text.proofs.Moments.{millisecond-at}
 use Rattle.time_text.proofs.WarcLemmas.{warc_cases}
 use Rattle.warc_text.specs.Ids.{id_of}
 use Rattle.warc_text.specs.Lines.{field, opening, type_line, version_line}
-use Rattle.warc_text.specs.Records.{info_text}
+use Rattle.warc_text.specs.Records.{info_most, info_text}
 use Rattle.warc_text.specs.declared.id.IdKind.TheVariants as ids
 use Rattle.warc_text.proofs.LengthLaws.{length_of_info}
 use Rattle.warc_scan.specs.steps.Fronts.{IsBegun}
-use Rattle.warc_scan.specs.InfoParts.{AsksForInfo, AsksForLittle, IsInfoAskedFor, IsInfoLen, info_front, most_bytes}
+use Rattle.warc_scan.specs.InfoParts.{AsksForInfo, AsksForLittle, IsInfoAskedFor, IsInfoLen, info_front}
 use Rattle.warc_scan.specs.steps.InfoFronts.{IsAnswerTo, IsInfoFront, front_of_info}
 use Rattle.warc_scan.specs.Answers.{HasNoInfo, InfosReach, IsCommittedRest, IsUnfinished, TellsInfo}
 use Rattle.warc_scan.specs.OpenValues.{Begins}
@@ -119,7 +119,7 @@ module _ (volume : ℕ) (bytes : List ℕ) where
       subst (λ t. Begins t bytes) (sym (front_begins id)) (begun_begins (drop 1 (info_front id 0)) bytes (front_goes_on id) begun) in
       inl (record { id = id; born = 0; id_is = some_id_is; date = omega arith; ends = begins_ends (info_front id 0) bytes begins }, is)
 
-pub little : (stop : Stop) (more : Bool) (len : ℕ) (step : InfoStep) → IsAnswerTo stop more len step → len ≤ most_bytes → AsksForLittle step
+pub little : (stop : Stop) (more : Bool) (len : ℕ) (step : InfoStep) → IsAnswerTo stop more len step → len ≤ info_most → AsksForLittle step
 little Open true len step is few = subst AsksForLittle (sym is) few
 little Open false len step is few = subst AsksForLittle (sym is) tt
 little (Until n) more len step is few = absurd is

@@ -4,7 +4,7 @@ use Rattle.time_text.specs.Texts.{InRange}
 use Rattle.warc_text.specs.Ids.{IsUuid}
 use Rattle.warc_text.specs.Lengths.{info_block_length}
 use Rattle.warc_text.specs.Lines.{content_line, length_lines, opening, software_lines}
-use Rattle.warc_text.specs.Records.{info_text}
+use Rattle.warc_text.specs.Records.{info_most, info_text}
 use Rattle.warc_text.specs.declared.kind.RecordKind.TheVariants as kinds
 use Rattle.warc_scan.specs.OpenValues.{IsPartOfUuid, Begins, EndsInside}
 use Rattle.warc_scan.specs.declared.info_step.InfoStep.{InfoStep}
@@ -65,17 +65,13 @@ AsksForInfo volume bytes info_step.Damaged = ⊤
 AsksForInfo volume bytes (info_step.Need n) = IsInfoAskedFor volume bytes n
 AsksForInfo volume bytes info_step.Memory = ⊤
 
--- no warcinfo has more bytes
-abbrev pub most_bytes : ℕ
-most_bytes = 512
-
 -- no more is asked for than a warcinfo may have
 abbrev pub AsksForLittle : InfoStep → Type 0
 AsksForLittle (info_step.Info namespace born len) = ⊤
 AsksForLittle info_step.End = ⊤
 AsksForLittle info_step.Unfinished = ⊤
 AsksForLittle info_step.Damaged = ⊤
-AsksForLittle (info_step.Need n) = n ≤ most_bytes
+AsksForLittle (info_step.Need n) = n ≤ info_most
 AsksForLittle info_step.Memory = ⊤
 
 -- ---- stops

@@ -7,6 +7,10 @@ use Rattle.warc_text.specs.Ids.{id_of}
 use Rattle.warc_text.specs.References.{Reference}
 use Rattle.warc_text.specs.Lines.{opening, target_line, digest_line, concurrent_line, refers_line, refers_target_line, refers_date_line, profile_lines, cut_line, content_line, ended, info_block}
 
+-- no warcinfo has more bytes
+abbrev pub info_most : ℕ
+info_most = 512
+
 -- the warcinfo of a volume
 unfoldable pub info_opening : List ℕ → ℕ → List ℕ
 info_opening id born = opening kinds.Info id born ++ content_line kinds.Info

@@ -13,6 +13,9 @@ use capture::{Bytes, Memory};
 use std::alloc::Global;
 use uuid::Uuid;
 
+/// No warcinfo has more bytes.
+pub const INFO_MOST: u64 = 512;
+
 /// Puts the `warcinfo` record of a volume (ISO 28500, section 6.2), born at this date, at the end of
 /// a text.
 #[tactic(auto, unfolding(crate::specs::Records::info_text, crate::specs::Records::info_opening, crate::specs::Lines::ended), using(crate::proofs::LengthLaws::length_of_info_block))]
@@ -42,7 +45,7 @@ pub fn info_text(alloc: Global, namespace: &Uuid, volume: u32, born: u64) -> Res
 #[tactic(auto, using(crate::proofs::LengthLaws::length_of_info))]
 pub fn info_len(volume: u32, born: u64) -> u64
     ensures value { (namespace : List ℕ) → result ≡ length (spec.info_text namespace volume born) }
-    ensures short { result ≤ 512 }
+    ensures short { result ≤ spec.info_most }
 {
     INFO + date_len(born) + ended_len(info_block_len(volume))
 }

@@ -18,7 +18,7 @@ mod same_of;
 
 pub use group::{group_text, put_group};
 pub use id::{IdKind, id_of};
-pub use info::{info_len, info_text, put_info};
+pub use info::{INFO_MOST, info_len, info_text, put_info};
 pub use laws::{
     equal_groups_are_of_equal_captures, files_stand_for_one_book, groups_are_prefix_free,
     groups_of_books_tell_their_captures, groups_tell_their_captures, numbers_have_one_group,

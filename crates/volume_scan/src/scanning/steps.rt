@@ -20,6 +20,7 @@ use std::alloc::Global;
 use uuid::Uuid;
 use warc_journal::{Further, Place};
 use warc_scan::HeadedGroup;
+use warc_text::INFO_MOST;
 
 impl<D: Disk> Scanning<D> {
     /// What stands behind what was read: a group, or what a volume's end may be followed by.
@@ -113,7 +114,15 @@ impl<D: Disk> Scanning<D> {
                 Ok(self.open(volume, namespace, born, len))
             }
             NextInfo::Nothing => self.end_before(volume, is_dirty, Further::Empty),
-            NextInfo::Tail => self.end_before(volume, is_dirty, Further::Unknown),
+            NextInfo::Tail => {
+                if self.window.len() > INFO_MOST {
+                    return Err(ScanFault::Damaged {
+                        file: volume,
+                        place: 0,
+                    });
+                }
+                self.end_before(volume, is_dirty, Further::Unknown)
+            }
             NextInfo::Damaged => Err(ScanFault::Damaged {
                 file: volume,
                 place: 0,
