@@ -1,5 +1,5 @@
 -- The digits and the marks of a WARC-Date.
-use Rattle.std.proofs.Common.{◌≡◌, ℕ, ◌%◌, ◌⊎◌, inl, inr, List, [], ◌∷◌, length, get_or, refl, sym, ap, ◌∙◌, arith}
+use Rattle.std.proofs.Common.{◌≡◌, ℕ, ◌%◌, ◌⊎◌, inl, inr, List, [], ◌∷◌, ◌++◌, length, get_or, refl, sym, ap, ◌∙◌, arith}
 use Rattle.std.proofs.lemmas.Bool.Decides.{eqb_tells}
 use Rattle.time_text.specs.Texts.{InRange, digits_of, warc_of, warc_date}
 use Rattle.time_text.specs.Calendar.{civil_at, HasDigits}
@@ -7,17 +7,19 @@ use Rattle.time_text.specs.declared.civil.Civil.{Civil}
 use Rattle.time_text.proofs.Moments.{HasDigits-at, millisecond-at}
 use Rattle.time_text.proofs.DigitLemmas.{digits_injective}
 
--- the digits of a text with a fraction
-abbrev pub digits_in : List ℕ → List ℕ
-digits_in t =
+-- the digits of a text up to its second
+abbrev pub first_digits : List ℕ → List ℕ
+first_digits t =
     get_or t 0 0 ∷ get_or t 1 0 ∷ get_or t 2 0 ∷ get_or t 3 0 ∷ get_or t 5 0 ∷ get_or t 6 0 ∷ get_or t 8 0 ∷ get_or t 9 0
-    ∷ get_or t 11 0 ∷ get_or t 12 0 ∷ get_or t 14 0 ∷ get_or t 15 0 ∷ get_or t 17 0 ∷ get_or t 18 0 ∷ get_or t 20 0 ∷ get_or t 21 0 ∷ get_or t 22 0 ∷ []
+    ∷ get_or t 11 0 ∷ get_or t 12 0 ∷ get_or t 14 0 ∷ get_or t 15 0 ∷ get_or t 17 0 ∷ get_or t 18 0 ∷ []
+
+-- all digits of a text with a fraction
+abbrev pub digits_in : List ℕ → List ℕ
+digits_in t = first_digits t ++ (get_or t 20 0 ∷ get_or t 21 0 ∷ get_or t 22 0 ∷ [])
 
 -- and of one without
 abbrev pub digits_in_whole : List ℕ → List ℕ
-digits_in_whole t =
-    get_or t 0 0 ∷ get_or t 1 0 ∷ get_or t 2 0 ∷ get_or t 3 0 ∷ get_or t 5 0 ∷ get_or t 6 0 ∷ get_or t 8 0 ∷ get_or t 9 0
-    ∷ get_or t 11 0 ∷ get_or t 12 0 ∷ get_or t 14 0 ∷ get_or t 15 0 ∷ get_or t 17 0 ∷ get_or t 18 0 ∷ 48 ∷ 48 ∷ 48 ∷ []
+digits_in_whole t = first_digits t ++ (48 ∷ 48 ∷ 48 ∷ [])
 
 -- the two forms of a WARC-Date
 pub record IsWhole (c : Civil) : Type 0 where
@@ -54,28 +56,6 @@ digits_from_warc a b e =
 
 pub warc_of_injective : (a b : Civil) → warc_of a ≡ warc_of b → a ≡ b
 warc_of_injective a b e = digits_injective a b (digits_from_warc a b e)
-
--- the digits of a text of 20 bytes, of 24, and of another length
-pub whole_text : (text : List ℕ) → length text ≡ 20 → (c : Civil) → text ≡ warc_of c → digits_in_whole text ≡ digits_of c
-whole_text text long c e =
-    elim (warc_cases c) [
-      | inl is ↦ ap digits_in_whole e ∙ is.digits
-      | inr is ↦ absurd (omega (arith, ap length e, long, is.long))
-    ]
-
-pub fraction_text : (text : List ℕ) → length text ≡ 24 → (c : Civil) → text ≡ warc_of c → digits_in text ≡ digits_of c
-fraction_text text long c e =
-    elim (warc_cases c) [
-      | inl is ↦ absurd (omega (arith, ap length e, long, is.long))
-      | inr is ↦ ap digits_in e ∙ is.digits
-    ]
-
-pub other_text : (text : List ℕ) → ¬ (length text ≡ 20) → ¬ (length text ≡ 24) → (c : Civil) → ¬ (text ≡ warc_of c)
-other_text text short long c e =
-    elim (warc_cases c) [
-      | inl is ↦ short (ap length e ∙ is.long)
-      | inr is ↦ long (ap length e ∙ is.long)
-    ]
 
 pub length-warc_date_whole : (date : ℕ) → date % 1000 ≡ 0 → length (warc_date date) ≡ 20
 unfolding warc_date

@@ -36,6 +36,7 @@ pub fn read_http(text: &[u8]) -> Result<u64, NotATime>
     Ok(date.unix_secs() * 1000)
 }
 
+/// What of the text stands between the spaces and tabs at both its ends.
 #[tactic(auto, unfolding(crate::specs::Blanks::trim_blanks))]
 fn without_blanks(text: &[u8]) -> &[u8]
     ensures { result.now ≡ trim_blanks text.now }
@@ -43,6 +44,7 @@ fn without_blanks(text: &[u8]) -> &[u8]
     without_last_blanks(without_first_blanks(text))
 }
 
+/// The text from its first byte on that is neither a space nor a tab; nothing where it has none.
 fn without_first_blanks(mut text: &[u8]) -> &[u8]
     ensures { result.now ≡ trim_start text.entry.now }
 {
@@ -55,6 +57,8 @@ fn without_first_blanks(mut text: &[u8]) -> &[u8]
     text
 }
 
+/// The text up to and with its last byte that is neither a space nor a tab; nothing where it has
+/// none.
 fn without_last_blanks(mut text: &[u8]) -> &[u8]
     ensures { result.now ≡ trim_end text.entry.now }
 {
@@ -67,6 +71,7 @@ fn without_last_blanks(mut text: &[u8]) -> &[u8]
     text
 }
 
+/// Whether it is a space or a tab (RFC 9110, 5.6.3).
 fn is_blank(byte: u8) -> bool
     ensures { result ≡ Blanks.is_blank byte }
 {

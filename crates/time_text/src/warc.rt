@@ -1,6 +1,6 @@
 //! A date as a WARC record has it.
 
-ghost use Rattle.std.specs.Prelude.{◌≡◌, ◌≤◌, ℕ, List, length, take, Ok, IfOk, OnErr, MatchOption};
+ghost use Rattle.std.specs.Prelude.{◌≡◌, ◌≤◌, ℕ, List, ◌++◌, length, take, Ok, IfOk, OnErr, MatchOption};
 ghost use Rattle.std.specs.Result.{OkIff};
 ghost use Rattle.time_text.specs.Calendar.{HasDigits};
 ghost use Rattle.time_text.specs.Texts.{InRange, digits_of, warc_of, warc_date};
@@ -117,59 +117,22 @@ fn digits_in(text: &[u8]) -> Option<[u8; 17]>
     ensures { MatchOption result ((c : Civil) → ¬ (text.now ≡ warc_of c))
         (λ digits. (c : Civil) → text.now ≡ warc_of c → digits ≡ digits_of c) }
 {
-    match *text {
-        [
-            y0,
-            y1,
-            y2,
-            y3,
-            _,
-            m0,
-            m1,
-            _,
-            d0,
-            d1,
-            _,
-            h0,
-            h1,
-            _,
-            n0,
-            n1,
-            _,
-            s0,
-            s1,
-            _,
-        ] => Some([
-            y0, y1, y2, y3, m0, m1, d0, d1, h0, h1, n0, n1, s0, s1, b'0', b'0', b'0',
-        ]),
-        [
-            y0,
-            y1,
-            y2,
-            y3,
-            _,
-            m0,
-            m1,
-            _,
-            d0,
-            d1,
-            _,
-            h0,
-            h1,
-            _,
-            n0,
-            n1,
-            _,
-            s0,
-            s1,
-            _,
-            f0,
-            f1,
-            f2,
-            _,
-        ] => Some([
-            y0, y1, y2, y3, m0, m1, d0, d1, h0, h1, n0, n1, s0, s1, f0, f1, f2,
-        ]),
+    match text.len() {
+        20 => Some(digits_with(text, [b'0', b'0', b'0'])),
+        24 => Some(digits_with(text, [text[20], text[21], text[22]])),
         _ => None,
     }
+}
+
+/// The digits that stand in `YYYY-MM-DDThh:mm:ss` at the front of the text, and behind them those
+/// of the fraction.
+fn digits_with(text: &[u8], fraction: [u8; 3]) -> [u8; 17]
+    requires { 20 ≤ length text.now }
+    ensures { (c : Civil) → text.now ≡ warc_of c → result ≡ take 14 (digits_of c) ++ fraction }
+{
+    let [f0, f1, f2] = fraction;
+    [
+        text[0], text[1], text[2], text[3], text[5], text[6], text[8], text[9], text[11], text[12],
+        text[14], text[15], text[17], text[18], f0, f1, f2,
+    ]
 }
