@@ -4,6 +4,7 @@ ghost use Rattle.std.specs.Cmp.{partial_equiv_from_equiv};
 ghost use Rattle.std.specs.Cmp.Lexicographic.{pointwise, nat_list_eq_equiv};
 
 use crate::Memory;
+use std::alloc::Global;
 use std::marker::Model;
 
 /// Bytes of a message, in order. A contract sees the list of them.
@@ -28,6 +29,15 @@ impl Bytes {
         Bytes { list }
     }
 
+    /// A copy of these bytes.
+    pub fn from_slice(alloc: Global, bytes: &[u8]) -> Result<Bytes, Memory>
+        ensures { IfOk result (λ b. b ≡ bytes.now) }
+    {
+        Ok(Bytes {
+            list: Vec::from_slice(alloc, bytes)?,
+        })
+    }
+
     /// The bytes in place.
     pub fn as_slice(&self) -> &[u8]
         ensures { result.now ≡ self.now }
@@ -47,8 +57,7 @@ impl Bytes {
     pub fn copy(&self) -> Result<Bytes, Memory>
         ensures { IfOk result (λ b. b ≡ self.now) }
     {
-        let list = Vec::from_slice(*self.list.allocator(), self.list.as_slice())?;
-        Ok(Bytes { list })
+        Bytes::from_slice(*self.list.allocator(), self.as_slice())
     }
 }
 

@@ -10,6 +10,7 @@ mod items;
 mod laws;
 mod limits;
 mod memory;
+mod ows;
 mod put;
 mod refusal;
 mod site;
@@ -29,6 +30,7 @@ pub use laws::{
 };
 pub use limits::{BODY_LIMIT, FIELD_LIMIT, HEAD_LIMIT, INTERIM_LIMIT, Limits, SIZE_LINE_LIMIT};
 pub use memory::Memory;
+pub use ows::trim_ows;
 pub use put::{put_all, put_number};
 pub use refusal::Refusal;
 pub use site::Site;
