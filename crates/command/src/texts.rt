@@ -105,6 +105,7 @@ fn other_text(alloc: Global, namespace: &Uuid) -> Result<Vec<u8>, Memory>
     Ok(text)
 }
 
+/// The line that tells that the disk failed.
 fn disk_fault_text(alloc: Global) -> Result<Vec<u8>, Memory>
     ensures { IfOk result (λ text. text.items ≡ codes "disk fault\n") }
 {

@@ -57,6 +57,7 @@ pub fn command_of(words: &[&str]) -> Option<Command>
     command_of_four(words[0], words[1], words[3])
 }
 
+/// The command of one word: `check`.
 fn command_of_one(name: &str) -> Option<Command>
     ensures value { result ≡ spec.command_of_one name.now }
     ensures uuid { IfSome result (λ command. IfSome (spec.asked_of command) IsUuid) }
@@ -68,6 +69,7 @@ fn command_of_one(name: &str) -> Option<Command>
     None
 }
 
+/// The command of two words: `pipe` or `import` and a namespace, or `verify` and how many workers.
 fn command_of_two(name: &str, second: &str) -> Option<Command>
     ensures value { result ≡ spec.command_of_two name.now second.now }
     ensures uuid { IfSome result (λ command. IfSome (spec.asked_of command) IsUuid) }
@@ -94,6 +96,8 @@ fn command_of_two(name: &str, second: &str) -> Option<Command>
     }
 }
 
+/// The command of three words: `follow`, a namespace and a base, or `trial`, how many exchanges and the load's number.
+/// Nothing looks at the base.
 fn command_of_three(name: &str, first: &str, second: &str) -> Option<Command>
     ensures value { result ≡ spec.command_of_three name.now first.now second.now }
     ensures uuid { IfSome result (λ command. IfSome (spec.asked_of command) IsUuid) }
@@ -117,6 +121,7 @@ fn command_of_three(name: &str, first: &str, second: &str) -> Option<Command>
     }
 }
 
+/// The command of four words, but for the third, the base: `serve`, a namespace and how many workers.
 fn command_of_four(name: &str, namespace: &str, workers: &str) -> Option<Command>
     ensures value { result ≡ spec.command_of_four name.now namespace.now workers.now }
     ensures uuid { IfSome result (λ command. IfSome (spec.asked_of command) IsUuid) }

@@ -35,7 +35,7 @@ pub fn read_base32(text: &[u8]) -> Option<[u8; 20]>
     Some(digest)
 }
 
-// The eight characters of five bytes.
+/// The eight characters of five bytes.
 fn characters_of(bytes: &[u8]) -> [u8; 8]
     requires { length bytes.now ≡ 5 }
     ensures { result ≡ base32 bytes.now }
@@ -53,7 +53,7 @@ fn characters_of(bytes: &[u8]) -> [u8; 8]
     ]
 }
 
-// The five bytes of eight characters.
+/// The five bytes of eight characters.
 fn bytes_of(text: &[u8]) -> Option<[u8; 5]>
     requires { length text.now ≡ 8 }
     ensures { MatchOption result (¬ (All (Contains alphabet) text.now))
@@ -76,6 +76,7 @@ fn bytes_of(text: &[u8]) -> Option<[u8; 5]>
     ])
 }
 
+/// The character of five bits.
 #[tactic(auto, unfolding(crate::specs::Base32::character))]
 fn character_of(number: u8) -> u8
     requires { number < 32 }
@@ -84,6 +85,7 @@ fn character_of(number: u8) -> u8
     ALPHABET[number as usize]
 }
 
+/// The five bits of a character, if it is one of the alphabet.
 fn number_of(byte: u8) -> Option<u8>
     ensures { MatchOption result (¬ (Contains alphabet byte))
         (λ number. (number < 32) × (byte ≡ character number)) }

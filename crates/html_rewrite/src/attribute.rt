@@ -68,7 +68,7 @@ pub fn attribute_name(text: &[u8]) -> &[u8]
     name
 }
 
-// How long an attribute's name is behind its first byte.
+/// How long an attribute's name is behind its first byte.
 fn attribute_len(text: &[u8]) -> usize
     ensures value { result ≡ prefix_len spec.is_attribute_byte text.now }
     ensures within { result ≤ length text.now }
@@ -76,6 +76,7 @@ fn attribute_len(text: &[u8]) -> usize
     text.iter().take_while(|&&b| is_attribute_byte(b)).count()
 }
 
+/// Whether a name of an attribute goes on with the byte.
 fn is_attribute_byte(b: u8) -> bool
     ensures { result ≡ spec.is_attribute_byte b }
 {
@@ -105,7 +106,7 @@ pub fn found_at(text: &[u8]) -> Found
     }
 }
 
-// Blanks, `=` and blanks, or nothing where no `=` follows.
+/// The length in bytes of blanks, `=` and blanks at the front; 0 where no `=` stands there.
 fn sign_len(text: &[u8]) -> usize
     ensures value { result ≡ sign_len text.now }
     ensures within { result ≤ length text.now }
@@ -118,6 +119,7 @@ fn sign_len(text: &[u8]) -> usize
     }
 }
 
+/// The quotes of a value that begins here.
 fn quote_at(text: &[u8]) -> Quote
     ensures { result ≡ spec.quote_at text.now }
 {
@@ -128,6 +130,7 @@ fn quote_at(text: &[u8]) -> Quote
     }
 }
 
+/// How many bytes open, or close, a value in these quotes.
 fn quote_len(quote: Quote) -> usize
     ensures { result ≡ length (spec.quote_text quote) }
 {
@@ -137,6 +140,7 @@ fn quote_len(quote: Quote) -> usize
     }
 }
 
+/// The length in bytes of a value behind its opening quote, if it has one; that of the text where it doesn't end.
 fn value_len(text: &[u8], quote: Quote) -> usize
     ensures value { result ≡ prefix_len (spec.is_value_byte quote) text.now }
     ensures within { result ≤ length text.now }
@@ -156,6 +160,7 @@ fn bare_len(text: &[u8]) -> usize
     text.iter().take_while(|&&b| is_bare_byte(b)).count()
 }
 
+/// Whether a value without quotes goes on with the byte.
 fn is_bare_byte(b: u8) -> bool
     ensures { result ≡ spec.is_value_byte Bare b }
 {

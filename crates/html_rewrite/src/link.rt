@@ -140,6 +140,7 @@ fn target_from(base: Option<&Url>, reference: &str) -> Result<Option<Url>, Memor
     }
 }
 
+/// Whether the URL has the scheme `http` or `https`.
 fn is_http(url: &Url) -> bool
     ensures { result ≡ spec.is_http url.now }
 {

@@ -40,6 +40,7 @@ pub fn opening_at(text: &[u8]) -> Opening
     Opening::Other
 }
 
+/// Whether a letter of ASCII stands at the front.
 fn begins_with_letter(text: &[u8]) -> bool
     ensures { result ≡ begins is_ascii_alphabetic text.now }
 {

@@ -34,7 +34,7 @@ fn len_before_end_tag(element: &[u8], text: &[u8]) -> usize
     len
 }
 
-// Whether the end tag of this element begins here.
+/// Whether the end tag of this element begins here.
 fn is_end_tag(element: &[u8], text: &[u8]) -> bool
     ensures { result ≡ spec.ends_raw_text element.now text.now }
 {
@@ -49,12 +49,14 @@ fn is_end_tag(element: &[u8], text: &[u8]) -> bool
     is_same_name(name, element) && ends_name(behind)
 }
 
+/// Whether it is the element's name, ASCII case ignored.
 fn is_same_name(name: &[u8], element: &[u8]) -> bool
     ensures { result ≡ str_eq_ignore_ascii_case name.now element.now }
 {
     name.eq_ignore_ascii_case(element)
 }
 
+/// Whether a byte stands here before which an element's name ends.
 fn ends_name(text: &[u8]) -> bool
     ensures { result ≡ begins bytes_spec.is_name_end text.now }
 {

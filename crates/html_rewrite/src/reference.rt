@@ -19,7 +19,7 @@ pub fn decode(alloc: Global, value: &[u8]) -> Result<Vec<u8>, Memory>
     Ok(list)
 }
 
-// What stands behind the byte, without `amp;` where the byte is `&`.
+/// What stands behind the byte, without `amp;` where the byte is `&`.
 fn behind_reference(first: u8, others: &[u8]) -> &[u8]
     ensures value { spec.decoded result.now ≡ spec.decoded_behind (spec.skipped first others.now) others.now }
     ensures shorter { length result.now ≤ length others.now }
@@ -54,6 +54,7 @@ pub fn put_escaped(out: &mut Vec<u8>, address: &[u8]) -> Result<(), Memory>
     }
 }
 
+/// Puts each byte of the address, escaped where it has to be.
 fn put_escaped_bytes(out: &mut Vec<u8>, address: &[u8]) -> Result<(), Memory>
     ensures { OnOk result (out.new.items ≡ out.old.items ++ spec.escaped address.now) }
 {
@@ -63,6 +64,7 @@ fn put_escaped_bytes(out: &mut Vec<u8>, address: &[u8]) -> Result<(), Memory>
     Ok(())
 }
 
+/// Puts `&amp;` for `&`, `&#39;` for `'`, and each other byte as it is.
 fn put_escaped_byte(out: &mut Vec<u8>, byte: u8) -> Result<(), Memory>
     ensures { OnOk result (out.new.items ≡ out.old.items ++ spec.escaped_byte byte) }
 {

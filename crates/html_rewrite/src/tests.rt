@@ -9,7 +9,7 @@ const NOON: u64 = 1_706_702_400_000;
 
 const PAGE: &[u8] = b"http://a.test/p";
 
-// Whether the page's text is given within this limit.
+/// Whether the page's text is given within this limit.
 fn fits(alloc: Global, page: &[u8], limit: usize) -> Result<bool, Memory> {
     let site = Site {
         base: Text::from_str(alloc, "http://localhost:8080")?,
@@ -20,7 +20,7 @@ fn fits(alloc: Global, page: &[u8], limit: usize) -> Result<bool, Memory> {
     Ok(rewrite_by(alloc, page, &links)?.is_some())
 }
 
-// Pages, and how long they are once they are rewritten.
+/// Pages, and how long they are once they are rewritten.
 const LENGTHS: [(&[u8], usize); 3] = [(b"<p>", 3), (b"<a href=/1>", 65), (b"<a href=/1>x", 66)];
 
 #[test]

@@ -4,6 +4,7 @@ ghost use Rattle.std.specs.Fork.{AcceptsAt, ChangesAt};
 
 use std::thread::{Threads, join_mut};
 
+/// Calls `f` on the value, as at place 0.
 fn at_one<T, F: Fn(usize, &mut T)>(f: &F, value: &mut T)
     requires { AcceptsAt F.Fn f.now 0 value.old }
     ensures { ChangesAt F.Fn f.now 0 value.old value.new }

@@ -101,6 +101,7 @@ impl<K> Model for Blank<K> {
 }
 
 impl<K> Blank<K> {
+    /// A ledger in which nothing is written yet, with the seat of its founder.
     pub(crate) fn new(alloc: Global) -> Result<Blank<K>, AllocError> {
         let (board, seat) = Table::of_words(alloc, &[0], &())?;
         Ok(Blank {

@@ -29,6 +29,7 @@ impl Model for MemoryFile {
 }
 
 impl MemoryFile {
+    /// An open file of this name, in memory of its own.
     fn of(alloc: Global, name: &str) -> io::Result<MemoryFile>
         ensures { IfOk result (λ file. file ≡ name.now) }
     {
@@ -36,6 +37,7 @@ impl MemoryFile {
         Ok(MemoryFile { name })
     }
 
+    /// The name in place.
     fn name(&self) -> &str
         ensures { result.now ≡ self.now }
     {

@@ -1,3 +1,4 @@
+//! The header fields that the proxy treats by their names alone.
 ghost use Rattle.std.specs.Prelude.{◌≡◌};
 ghost use Rattle.name_table.specs.HeaderFields.{hop_by_hop, kept_in_memento};
 

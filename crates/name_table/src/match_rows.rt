@@ -1,3 +1,5 @@
+//! A table with one row for each variant of an enum.
+
 /// Gives the row of an enum's value in a table with one row for each variant, whatever its fields.
 ///
 /// `match_rows!(fault, Fault; Closed => "closed", Full | Late => "busy")` is a `match`, so a variant
@@ -19,6 +21,7 @@ mod tests {
         Late(u64),
     }
 
+    /// A row for each variant, one of which two share.
     fn status(fault: &Fault) -> (u16, &'static str) {
         match_rows!(fault, Fault;
             Closed => (502, "Bad Gateway"),
@@ -26,7 +29,7 @@ mod tests {
         )
     }
 
-    // No case can say it: a case has no enum of its own.
+    /// No case can say it: a case has no enum of its own.
     #[test]
     fn gives_the_row_of_a_variant(rt: HostRuntime) {
         assert!(rt; status(&Fault::Closed) == (502, "Bad Gateway"));

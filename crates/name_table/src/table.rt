@@ -1,3 +1,4 @@
+//! Tables of names, searched by halves with ASCII case ignored.
 ghost use Rattle.std.specs.Prelude.{◌≡◌, List, ℕ, map, IsTrue};
 ghost use Rattle.std.specs.Cmp.Lexicographic.{slice_cmp};
 ghost use Rattle.std.specs.List.{list_all};
@@ -61,7 +62,7 @@ fn compare_lowered(row: &str, name: &[u8]) -> Ordering
 mod tests {
     use super::*;
 
-    // No case reaches it: every table of the program has more rows.
+    /// No case reaches it: every table of the program has more rows.
     #[test]
     fn searches_a_table_of_one_row(rt: HostRuntime) {
         let table = NameTable::<1>::new(["a href"]);

@@ -40,6 +40,7 @@ pub fn address_at(target: &[u8]) -> Address<'_>
     }
 }
 
+/// The parts of an address by what stands behind its `/web/`.
 fn behind_web(text: &[u8]) -> Address<'_>
     ensures { parts_of result ≡ spec.behind_web text.now }
 {
@@ -58,6 +59,7 @@ fn behind_web(text: &[u8]) -> Address<'_>
     digits_first(text)
 }
 
+/// The parts of an address that names no number, ship, list or query, by what stands behind its `/web/`.
 fn digits_first(text: &[u8]) -> Address<'_>
     ensures { parts_of result ≡ spec.digits_first (prefix_len is_ascii_digit text.now) text.now }
 {
@@ -86,7 +88,7 @@ fn digits_first(text: &[u8]) -> Address<'_>
     Address::AGate(text)
 }
 
-// What stands behind the front, where the text begins with it.
+/// What stands behind the front, where the text begins with it.
 fn behind<'a>(text: &'a [u8], front: &[u8]) -> Option<&'a [u8]>
     ensures { MatchOption result (spec.begins_with front.now text.now ≡ false)
         (λ rest. (spec.begins_with front.now text.now ≡ true) × (rest.now ≡ drop (length front.now) text.now)) }
@@ -98,6 +100,7 @@ fn behind<'a>(text: &'a [u8], front: &[u8]) -> Option<&'a [u8]>
     Some(rest)
 }
 
+/// How many digits stand at the front.
 fn digits_len(text: &[u8]) -> usize
     ensures value { result ≡ prefix_len is_ascii_digit text.now }
     ensures within { result ≤ length text.now }
@@ -105,6 +108,7 @@ fn digits_len(text: &[u8]) -> usize
     text.iter().take_while(|b| b.is_ascii_digit()).count()
 }
 
+/// Whether two small letters, `_` and `/` stand at the front.
 fn has_modifier(text: &[u8]) -> bool
     ensures { result ≡ spec.has_modifier text.now }
 {

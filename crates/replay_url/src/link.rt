@@ -55,6 +55,7 @@ pub fn put_map_link(
     put_link_parameter(out, b"type", b"application/link-format")
 }
 
+/// Puts the address of the list of a URL's captures between angle brackets.
 #[tactic(auto, unfolding(crate::specs::Links::link_target))]
 fn put_map_target(out: &mut Vec<u8>, site: &Site, url: &[u8]) -> Result<(), Memory>
     ensures { OnOk result (out.new.items ≡ out.old.items ++ link_target (map_address site.now.base url.now)) }

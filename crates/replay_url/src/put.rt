@@ -23,6 +23,7 @@ pub fn put_form(alloc: Global, site: &Site, form: &Form) -> Result<Text, Memory>
     }
 }
 
+/// Puts the whole address of a form.
 fn put_address(out: &mut Vec<u8>, site: &Site, form: &Form) -> Result<(), Memory>
     requires { CanBePut form.now }
     ensures text { OnOk result (out.new.items ≡ out.old.items ++ address_text site.now.base form.now) }
@@ -85,6 +86,7 @@ pub fn put_map(out: &mut Vec<u8>, site: &Site, url: &[u8]) -> Result<(), Memory>
     put_all(out, url)
 }
 
+/// Puts the address of a memento by its time, in milliseconds since 1970, of which `digits` digits stand in it.
 fn put_at_time(
     out: &mut Vec<u8>,
     site: &Site,
@@ -105,6 +107,7 @@ fn put_at_time(
     }
 }
 
+/// Puts the address of a capture by its number: the site's base, `/web/rec/` and the number.
 #[tactic(auto, unfolding(crate::specs::Forms::number_address))]
 fn put_of_number(out: &mut Vec<u8>, site: &Site, number: u32) -> Result<(), Memory>
     ensures { OnOk result (out.new.items ≡ out.old.items ++ number_address site.now.base number) }
@@ -114,6 +117,7 @@ fn put_of_number(out: &mut Vec<u8>, site: &Site, number: u32) -> Result<(), Memo
     put_number(out, u64::from(number))
 }
 
+/// Puts the address of a query: the site's base, `/web/cdx?` and its text.
 #[tactic(auto, unfolding(crate::specs::Forms::query_address))]
 fn put_query(out: &mut Vec<u8>, site: &Site, text: &[u8]) -> Result<(), Memory>
     ensures { OnOk result (out.new.items ≡ out.old.items ++ query_address site.now.base text.now) }
@@ -123,6 +127,7 @@ fn put_query(out: &mut Vec<u8>, site: &Site, text: &[u8]) -> Result<(), Memory>
     put_all(out, text)
 }
 
+/// Puts the address of a piece to be shipped: the site's base, `/web/ship/` and its number.
 #[tactic(auto, unfolding(crate::specs::Forms::piece_address))]
 fn put_piece(out: &mut Vec<u8>, site: &Site, number: u32) -> Result<(), Memory>
     ensures { OnOk result (out.new.items ≡ out.old.items ++ piece_address site.now.base number) }
@@ -132,6 +137,7 @@ fn put_piece(out: &mut Vec<u8>, site: &Site, number: u32) -> Result<(), Memory>
     put_number(out, u64::from(number))
 }
 
+/// Puts `id_` where the memento is asked for as it was received, and else nothing.
 fn put_modifier(out: &mut Vec<u8>, raw: bool) -> Result<(), Memory>
     ensures { OnOk result (out.new.items ≡ out.old.items ++ raw_text raw) }
 {

@@ -40,6 +40,7 @@ fn asks_to_close(fields: &[Field]) -> bool
     fields.iter().any(|field| lists_close(field))
 }
 
+/// Whether it is a field Connection that lists `close`.
 fn lists_close(field: &Field) -> bool
     ensures { result ≡ steps.lists_close (named_value field.now) }
 {
@@ -66,6 +67,7 @@ fn has_close(list: &[u8]) -> bool
     }
 }
 
+/// Whether the member is `close`, ASCII case ignored.
 fn is_close(member: &[u8]) -> bool
     ensures { result ≡ bytes_eq (lowered member.now) (codes "close") }
 {
@@ -79,12 +81,14 @@ fn expects_answer(head: &RequestHead) -> bool
     has_expectation(head.fields.as_slice())
 }
 
+/// Whether one of the fields is Expect with the value `100-continue`.
 fn has_expectation(fields: &[Field]) -> bool
     ensures { result ≡ list_any steps.is_expectation (map named_value fields.now) }
 {
     fields.iter().any(|field| is_expectation(field))
 }
 
+/// Whether it is a field Expect with the value `100-continue`, ASCII case ignored.
 fn is_expectation(field: &Field) -> bool
     ensures { result ≡ steps.is_expectation (named_value field.now) }
 {

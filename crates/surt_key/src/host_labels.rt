@@ -20,6 +20,7 @@ pub fn reversed_labels(alloc: Global, domain: &[u8]) -> Result<Vec<&[u8]>, Memor
 
 const WWW: &[u8] = b"www";
 
+/// The domain without one dot at its end.
 fn without_final_dot(domain: &[u8]) -> &[u8]
     ensures { result.now ≡ spec.without_final_dot domain.now }
 {
@@ -29,6 +30,7 @@ fn without_final_dot(domain: &[u8]) -> &[u8]
     }
 }
 
+/// Whether the first of three or more labels is `www`.
 fn begins_with_www(labels: &[&[u8]]) -> bool
     ensures { result ≡ spec.begins_with_www (map (λ l. l.now) labels.now) }
 {

@@ -23,6 +23,7 @@ impl Model for Key {
 }
 
 impl Key {
+    /// The key that has these bytes. Takes no memory.
     pub(crate) fn of(bytes: Vec<u8>) -> Key
         ensures { result ≡ bytes.items }
     {

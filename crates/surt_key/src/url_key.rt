@@ -36,6 +36,7 @@ pub fn key_of(alloc: Global, uri: &[u8]) -> Result<Key, KeyFault>
     }
 }
 
+/// Whether the URL has the scheme `http` or `https`.
 fn is_http(url: &Url) -> bool
     ensures { result ≡ spec.is_http url.now }
 {
@@ -57,6 +58,7 @@ pub fn key_of_url(alloc: Global, url: &Url) -> Result<Key, Memory>
     Ok(Key::of(out))
 }
 
+/// Puts the labels of a domain between commas, the last one first, or an address as the URL has it.
 fn put_host(out: &mut Vec<u8>, url: &Url) -> Result<(), Memory>
     ensures { OnOk result (out.new.items ≡ out.old.items ++ host_text_of (nonempty_host url.now)) }
 {
@@ -70,13 +72,14 @@ fn put_host(out: &mut Vec<u8>, url: &Url) -> Result<(), Memory>
     }
 }
 
-// `:` and the port, unless it is the scheme's default.
+/// `:` and the port, unless it is the scheme's default.
 fn port_text(url: &Url) -> &str
     ensures { result.now ≡ spec.port_text url.now.port }
 {
     url.slice(Position::AfterHost, Position::AfterPort)
 }
 
+/// Puts `?` and the parts of the query, and nothing where there is none or an empty one.
 fn put_query(out: &mut Vec<u8>, query: Option<&str>) -> Result<(), Memory>
     ensures { OnOk result (out.new.items ≡ out.old.items ++ spec.query_text (option_copied query.entry)) }
 {
@@ -86,7 +89,7 @@ fn put_query(out: &mut Vec<u8>, query: Option<&str>) -> Result<(), Memory>
     }
 }
 
-// `?` and the parts of the query, lowered and sorted.
+/// `?` and the parts of the query, lowered and sorted.
 fn put_parts(out: &mut Vec<u8>, query: &[u8]) -> Result<(), Memory>
     ensures { OnOk result (out.new.items ≡ out.old.items ++ codes "?" ++ sorted_query query.now) }
 {
