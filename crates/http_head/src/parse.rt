@@ -10,9 +10,9 @@ ghost use Rattle.http_head.specs.steps.HeadSpans.{SpansRequest, SpansResponse};
 use super::fields::has_framing;
 use super::head::{RequestHead, RequestOutline, ResponseHead, WireFault};
 use super::lines::line_ends_len;
-use super::parts::{copy_bytes, copy_fields, copy_text, version_of};
+use super::parts::{copy_fields, copy_text, version_of};
 use super::section::make_headers;
-use capture::Memory;
+use capture::{Bytes, Memory};
 use httparse::Status;
 use httparse::spans::{HeaderSpan, RequestSpans, ResponseSpans, parse_request, parse_response};
 use std::alloc::Global;
@@ -128,10 +128,10 @@ fn copy_request(
     let (used, _) = headers.split_at(spans.headers);
     Ok(RequestHead {
         method: copy_text(alloc, spans.method.of(text))?,
-        target: copy_bytes(alloc, spans.path.of(text))?,
+        target: Bytes::from_slice(alloc, spans.path.of(text))?,
         version: version_of(spans.version),
         fields: copy_fields(alloc, text, used)?,
-        text: copy_bytes(alloc, text)?,
+        text: Bytes::from_slice(alloc, text)?,
     })
 }
 
@@ -168,8 +168,8 @@ fn copy_response(
     Ok(ResponseHead {
         version: version_of(spans.version),
         status: spans.code,
-        reason: copy_bytes(alloc, spans.reason.of(text))?,
+        reason: Bytes::from_slice(alloc, spans.reason.of(text))?,
         fields: copy_fields(alloc, text, used)?,
-        text: copy_bytes(alloc, text)?,
+        text: Bytes::from_slice(alloc, text)?,
     })
 }

@@ -21,13 +21,6 @@ pub fn version_of(minor: u8) -> Version
     }
 }
 
-/// A copy of bytes.
-pub fn copy_bytes(alloc: Global, bytes: &[u8]) -> Result<Bytes, Memory>
-    ensures { IfOk result (λ copy. copy ≡ bytes.now) }
-{
-    Ok(Bytes::of(Vec::from_slice(alloc, bytes)?))
-}
-
 /// A copy of a text of ASCII.
 pub fn copy_text(alloc: Global, bytes: &[u8]) -> Result<Text, Memory>
     requires { IsAscii bytes.now }
@@ -47,7 +40,7 @@ fn copy_field(alloc: Global, text: &[u8], header: HeaderSpan) -> Result<Field, M
 {
     Ok(Field {
         name: copy_text(alloc, header.name.of(text))?,
-        value: copy_bytes(alloc, header.value.of(text))?,
+        value: Bytes::from_slice(alloc, header.value.of(text))?,
     })
 }
 
