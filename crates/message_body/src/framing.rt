@@ -117,6 +117,7 @@ fn is_chunked(fields: &[Field]) -> bool
     false
 }
 
+/// Whether the value is `chunked`, ASCII case ignored.
 fn is_coding_chunked(value: &[u8]) -> bool
     ensures { result ≡ bytes_eq (lowered value.now) (codes "chunked") }
 {

@@ -57,7 +57,7 @@ impl<'w> Payload<'w> {
         let Payload { wire, joined } = self;
         match joined {
             Some(bytes) => Ok(bytes),
-            None => Ok(Bytes::of(Vec::from_slice(alloc, wire)?)),
+            None => Bytes::from_slice(alloc, wire),
         }
     }
 }

@@ -68,6 +68,7 @@ fn is_digits(text: &[u8]) -> bool
     has_digits_alone(text)
 }
 
+/// Whether each byte is a digit, as it is in an empty text.
 fn has_digits_alone(text: &[u8]) -> bool
     ensures { result ≡ list_all is_ascii_digit text.now }
 {

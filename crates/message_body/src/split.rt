@@ -93,6 +93,7 @@ fn split_line_end(text: &[u8], chunk_data: Span) -> Split
     }
 }
 
+/// Whether a CR LF stands at the front, may stand there once more came, or can't.
 fn line_end_of(bytes: &[u8]) -> LineEndSeen
     ensures { IsLineEndSeen bytes.now result }
 {
