@@ -16,8 +16,8 @@ pub use fault::{BringFault, ReopenFault, RollFault, StoreFault};
 pub use finder::Finder;
 pub use laws::{
     captures_are_stored_one_way, entries_gain_what_is_stored, first_keeps_its_wire,
-    leading_books_grow, looked_stays_right, stored_captures_stand_behind, storing_keeps_soundness,
-    texts_go_on_behind,
+    growth_leaves_soundness, leading_books_grow, looked_stays_right, stored_captures_stand_behind,
+    storing_keeps_soundness, texts_go_on_behind,
 };
 pub use looked::Looked;
 pub use receipt::Receipt;

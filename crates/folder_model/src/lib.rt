@@ -15,8 +15,8 @@ pub use durable::{MakeFault, make_durably, settle_durably};
 pub use folder::Folder;
 pub use folders::{Folders, Lock};
 pub use laws::{
-    each_deed_is_a_step_of_the_disk, what_a_failed_sync_leaves_is_mended, what_is_left_is_a_disk,
-    what_was_synced_is_durable,
+    each_call_is_the_disks, each_deed_is_a_step_of_the_disk, moments_have_their_images,
+    what_a_failed_sync_leaves_is_mended, what_is_left_is_a_disk, what_was_synced_is_durable,
 };
 pub use names::{NameList, Names};
 pub use timed::Timed;
