@@ -1,9 +1,11 @@
 -- What is in doubt of a disk's files, and what its calls make of that.
-use Rattle.std.specs.Prelude.{◌^◌, ◌≡◌, ◌≢◌, ◌⊎◌, ◌<◌, ◌≤◌, ◌+◌, ℕ, true, false, if◌then◌else◌, IsTrue, Option, Some, None, is_some, IfSome, List, ⊤}
+use Rattle.std.specs.Prelude.{◌^◌, ◌≡◌, ◌≢◌, ◌⊎◌, ◌<◌, ◌≤◌, ◌+◌, ℕ, true, false, if◌then◌else◌, IsTrue, Option, Some, None, is_some, IfSome, Err, List, ⊤}
 use Rattle.disk_model.specs.declared.kind.Kind.{Kind}
 use Rattle.disk_model.specs.declared.kind.Kind.TheVariants.{Warc, Cdxj}
 use Rattle.folder_model.specs.Folder.{FolderPast, contents_of, IsNameSureAt, AreBytesLeftAt}
 use Rattle.folder_model.specs.Ranges.{IsTornAt}
+use Rattle.folder_model.specs.Whole.{MakesInPart, OnListed}
+use Rattle.folder_model.specs.declared.durable.MakeFault.{MakeFault}
 use Rattle.folder_files.specs.declared.trust.Further.{Further}
 use Rattle.folder_files.specs.declared.trust.Further.TheVariants.{Absent, Unsettled, Unlisted}
 use Rattle.folder_files.specs.declared.trust.Trust.{Trust}
@@ -42,6 +44,12 @@ abbrev pub IsFurther : Further → FolderPast → List ℕ → Type 0
 IsFurther Absent past name = contents_of past name ≡ None
 IsFurther Unsettled past name = IsNameSureAt past name × AreBytesLeftAt past name
 IsFurther Unlisted past name = ⊤
+
+-- A file of this name was to be made: it was, with nothing but syncs behind it, or nothing was done. Where no sync of the folder failed the next one answers for each
+-- name that it answered for.
+pub record IsMissed (name : List ℕ) (fault : MakeFault) (old new : FolderPast) : Type 0 where
+  pub partial : MakesInPart name old new
+  pub listed : (m : List ℕ) → IsNameSureAt old m → OnListed {T = ⊤} (Err fault) (IsNameSureAt new m)
 
 -- the number of the file, where it is in doubt
 abbrev pub doubt_in : Option Written → Option ℕ

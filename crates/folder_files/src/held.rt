@@ -13,15 +13,12 @@ use crate::mending::sync_anew;
 use crate::names::FileNames;
 use crate::open_files::{OpenFiles, OpenOne};
 use crate::opening::read_open;
-use crate::reasons::{
-    check_in_place, end_of, inside, is_there_already, no_further_number, stopped, unknown,
-};
+use crate::reasons::{check_in_place, end_of, inside, no_further_number, stopped, unknown};
 use crate::trust::Trust;
 use disk_model::Kind;
-use folder_model::{Folder, MakeFault, Timed, WriteFault, make_durably, write_whole};
+use folder_model::{Folder, Timed, WriteFault, make_durably, write_whole};
 use std::alloc::Global;
 use std::io;
-use std::io::ErrorKind;
 use std::marker::PhantomData;
 
 /// A folder that is held, with how many files of each kind are known. Once a sync failed that can't be mended, or others changed
@@ -119,20 +116,7 @@ impl<F: Folder, N: FileNames> Held<F, N> {
                 })?;
                 Ok(number)
             }
-            Err(MakeFault::Unlisted(error)) => {
-                self.timed.go_on();
-                self.trust.missed_list(kind);
-                Err(error)
-            }
-            Err(MakeFault::Unsettled(error)) => {
-                if self.lacks(kind, number) {
-                    return Err(error);
-                }
-                self.timed.go_on();
-                self.trust
-                    .missed(kind, error.kind() == ErrorKind::AlreadyExists);
-                Err(is_there_already(error))
-            }
+            Err(fault) => Err(self.note_missed(kind, number, fault)),
         }
     }
 

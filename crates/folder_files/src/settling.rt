@@ -1,22 +1,53 @@
 //! A file that was to be made and may be there: where it is, it is synced with its name, and the disk's from then on.
-ghost use Rattle.std.specs.Prelude.{◌≡◌, ◌≢◌, false, None, IsTrue, OnOk};
-ghost use Rattle.folder_model.specs.Folder.{contents_of};
+ghost use Rattle.std.specs.Prelude.{◌≡◌, ◌≢◌, false, None, Err, IsTrue, OnOk};
+ghost use Rattle.folder_model.specs.Folder.{FolderPast, contents_of};
 ghost use Rattle.folder_files.specs.declared.trust.Further.TheVariants.{Absent, Unsettled};
-ghost use Rattle.folder_files.specs.Calls.{Looks};
-ghost use Rattle.folder_files.specs.Doubts.{further_of};
+ghost use Rattle.folder_files.specs.Calls.{Creates, Looks};
+ghost use Rattle.folder_files.specs.Doubts.{further_of, IsMissed};
 ghost use Rattle.folder_files.specs.Held.{state_of, AreHeld};
 ghost use Rattle.folder_files.specs.State.{IsKnown, known_of};
 
 use crate::held::Held;
 use crate::names::FileNames;
 use crate::opening::open_empty;
-use crate::reasons::{no_further_number, stopped};
+use crate::reasons::{is_there_already, no_further_number, stopped};
 use crate::trust::Further;
 use disk_model::Kind;
 use folder_model::{Folder, MakeFault, settle_durably};
 use std::io;
+use std::io::ErrorKind;
 
 impl<F: Folder, N: FileNames> Held<F, N> {
+    /// Notes what is known of the next file of a kind, which was to be made and wasn't, or may be there. Gives why.
+    pub(crate) fn note_missed(&mut self, kind: Kind, number: u32, fault: MakeFault) -> io::Error
+        requires going { self.old.trust.gave_up ≡ false }
+        requires absent { further_of self.old.trust kind ≡ Absent }
+        requires number { number ≡ known_of self.old.warc self.old.cdxj kind }
+        requires written { self.old.files.written ≡ None }
+        requires read { self.old.files.read ≡ None }
+        ensures creates { (first : FolderPast) → (IsTrue F.tells → IsKnown N.name (record (state_of F.past self.old) { past = first }))
+            → (IsTrue F.tells → IsMissed (N.name kind number) fault first (F.past self.old.timed.folder))
+            → Creates F.tells N.name kind (record (state_of F.past self.old) { past = first }) (state_of F.past self.new) (Err result) }
+        ensures open { IsTrue F.tells → AreHeld N.name F.name_of F.past self.new }
+    {
+        match fault {
+            MakeFault::Unlisted(error) => {
+                self.timed.go_on();
+                self.trust.missed_list(kind);
+                error
+            }
+            MakeFault::Unsettled(error) => {
+                if self.lacks(kind, number) {
+                    return error;
+                }
+                self.timed.go_on();
+                self.trust
+                    .missed(kind, error.kind() == ErrorKind::AlreadyExists);
+                is_there_already(error)
+            }
+        }
+    }
+
     /// Looks whether a file of a kind is there that was to be made. One that is there is synced, with its name, and known from
     /// then on. Where that fails it may be tried again, but behind a sync of the folder that failed.
     pub(crate) fn settle(&mut self, kind: Kind) -> io::Result<()>

@@ -1,20 +1,19 @@
 -- The next file was made, or may have been, or nothing was done.
-use Rattle.std.proofs.Common.{◌≡◌, ℕ, Ok, Err, IsTrue, List, refl, sym, ap, ◌∙◌, subst, arith}
+use Rattle.std.proofs.Common.{◌≡◌, ℕ, Ok, Err, List, refl, sym, ap, ◌∙◌, subst, arith}
 use Rattle.std.specs.declared.io.Error.{Error}
-use Rattle.std.specs.Prelude.{None}
-use Rattle.folder_model.specs.Folder.{FolderPast, contents_of, IsNameSureAt}
-use Rattle.folder_model.specs.Times.{goes_on}
-use Rattle.folder_model.specs.Timed.{times_of}
+use Rattle.std.specs.Prelude.{Result, ⊤}
+use Rattle.folder_model.specs.Folder.{FolderPast, IsNameSureAt}
 use Rattle.folder_model.specs.Whole.{made_durably, MakesInPart, OnListed}
+use Rattle.folder_model.specs.declared.durable.MakeFault.{MakeFault}
+use Rattle.folder_model.specs.declared.durable.MakeFault.TheVariants.{Unlisted, Unsettled}
 use Rattle.folder_files.specs.Calls.{Creates}
 use Rattle.folder_files.specs.Held.{state_of}
-use Rattle.folder_files.specs.State.{State, known_of, next, grown, trusted}
-use Rattle.folder_files.specs.Doubts.{further_of, with_further}
-use Rattle.folder_files.specs.declared.trust.Further.TheVariants.{Absent, Unsettled}
+use Rattle.folder_files.specs.State.{State, next, grown, trusted}
+use Rattle.folder_files.specs.Doubts.{IsMissed}
 use Rattle.folder_files.specs.declared.trust.Trust.{Trust}
 use Rattle.folder_files.specs.steps.OpenLaws.{all_same, same_contents, none_open, made_open}
-use Rattle.folder_files.specs.steps.StateLaws.{create_missed, create_not_begun, create_unacknowledged, nothing_made, grown_trusted, at_error}
-use Rattle.folder_files.specs.steps.SettleLaws.{made_told, missed_now, missed_list_now, missed_ranges, missed_list_ranges}
+use Rattle.folder_files.specs.steps.StateLaws.{create_not_begun, create_unacknowledged, grown_trusted, at_error}
+use Rattle.folder_files.specs.steps.SettleLaws.{made_told}
 use Rattle.folder_files.proofs.held.Held.create.Goals as goal
 
 pub returns-in_err-check_in_place-clause-creates : goal.returns-in_err-check_in_place-clause-creates
@@ -126,107 +125,30 @@ returns-then-self-clause-creates g c =
     let old : State = state_of g.F.Folder.past c.args.self.now in
     create_not_begun {E = Error} g.F.Folder.tells g.N.FileNames.name c.args.kind old old.past c.stopped.result (λ told. refl) c.requires.known
 
-pub returns-then-lacks-clause-creates : goal.returns-then-lacks-clause-creates
-returns-then-lacks-clause-creates g c =
-    let tells = g.F.Folder.tells in
-    let name = g.N.FileNames.name in
-    let past_of = g.F.Folder.past in
-    let old : State = state_of past_of c.args.self.now in
-    let first : FolderPast = past_of c.check_in_place.new.folder in
-    let past : FolderPast = past_of c.make_durably.new.folder in
-    let last : FolderPast = past_of c.lacks.new.self.timed.folder in
-    let called : c.as_str.result.now ≡ name c.args.kind c.known-number.result = c.as_str.ensures.value ∙ c.in_ok-name.ensures in
-    let none : IsTrue tells → contents_of past (name c.args.kind c.known-number.result) ≡ None =
-    λ told. (λ i. contents_of (sym (c.lacks.ensures.same told) i) (name c.args.kind c.known-number.result)) ∙ c.lacks.ensures.none told c.if-lacks.true in
-    let same : IsTrue tells → last ≡ old.past =
-    λ told. c.lacks.ensures.same told
-    ∙ nothing_made (name c.args.kind c.known-number.result) first past (none told)
-    (subst (λ (n : List ℕ). MakesInPart n first past) called (c.make_durably.ensures.partial told))
-    ∙ c.check_in_place.ensures told in
-    let went : state_of past_of c.lacks.new.self ≡ record old { past = last } = λ i. record (state_of past_of (c.lacks.ensures.rest i)) { past = last } in
-    subst (λ (s : State). Creates {E = Error} tells name c.args.kind old s (Err c.in-Err-Unsettled.error)) (sym went)
-    (create_not_begun {E = Error} tells name c.args.kind old last c.in-Err-Unsettled.error same c.requires.known)
-
-pub returns-then-lacks-clause-open : goal.returns-then-lacks-clause-open
-returns-then-lacks-clause-open g c = λ told.
-    none_open g.N.FileNames.name g.F.Folder.name_of (g.F.Folder.past c.lacks.new.self.timed.folder) c.lacks.new.self.files
-    ((λ i. (c.lacks.ensures.rest i).files.written) ∙ c.close.ensures.written) ((λ i. (c.lacks.ensures.rest i).files.read) ∙ c.close.ensures.read)
-
 pub returns-then-has_further-clause-creates : goal.returns-then-has_further-clause-creates
 returns-then-has_further-clause-creates g c =
     let old : State = state_of g.F.Folder.past c.args.self.now in
     create_not_begun {E = Error} g.F.Folder.tells g.N.FileNames.name c.args.kind old old.past _ (λ told. refl) c.requires.known
 
-pub returns-in-Err-Unlisted-clause-creates : goal.returns-in-Err-Unlisted-clause-creates
-returns-in-Err-Unlisted-clause-creates g c =
-    let tells = g.F.Folder.tells in
-    let name = g.N.FileNames.name in
-    let past_of = g.F.Folder.past in
-    let old : State = state_of past_of c.args.self.now in
-    let first : FolderPast = past_of c.check_in_place.new.folder in
-    let past : FolderPast = past_of c.make_durably.new.folder in
-    let number : c.known-number.result ≡ known_of old.warc old.cdxj c.args.kind = c.known-number.ensures in
-    let named : c.as_str.result.now ≡ name c.args.kind (known_of old.warc old.cdxj c.args.kind) =
-    c.as_str.ensures.value ∙ c.in_ok-name.ensures ∙ ap (name c.args.kind) number in
-    let trust : Trust = c.missed_list.new.self in
-    let absent : further_of old.trust c.args.kind ≡ Absent = c.has_further.ensures c.if-has_further.false in
-    let times : times_of c.go_on-in-Err-Unlisted.new.self ≡ goes_on old.times past = c.go_on-in-Err-Unlisted.ensures.times in
-    let went : record { past = past_of c.go_on-in-Err-Unlisted.new.self.folder; warc = old.warc; cdxj = old.cdxj; trust = trust; times = times_of c.go_on-in-Err-Unlisted.new.self } ≡ trusted trust (next old past) =
-    λ i. record { past = past_of (c.go_on-in-Err-Unlisted.ensures.folder i); warc = old.warc; cdxj = old.cdxj; trust = trust; times = times i } in
-    let partial : IsTrue tells → MakesInPart (name c.args.kind (known_of old.warc old.cdxj c.args.kind)) old.past past =
-    λ told. subst (λ (p : FolderPast). MakesInPart (name c.args.kind (known_of old.warc old.cdxj c.args.kind)) p past) (c.check_in_place.ensures told)
-    (subst (λ (n : List ℕ). MakesInPart n first past) named (c.make_durably.ensures.partial told)) in
-    subst (λ (s : State). Creates {E = Error} tells name c.args.kind old s (Err c.in-Err-Unlisted.error)) (sym went)
-    (create_missed tells name g.met.N.FileNames.apart c.args.kind old past trust (λ told. (c.requires.known told, partial told)) c.if-self.false absent
-    (missed_list_ranges c.args.kind old.trust trust c.missed_list.ensures)
-    (λ told. missed_list_now name c.args.kind old past trust (c.requires.known told) g.met.N.FileNames.apart (partial told) c.missed_list.ensures)
-    {E = Error} c.in-Err-Unlisted.error)
+-- what the folder's sync still answers for doesn't go by what was to be made
+listed_at : (T : Type 0) (fault : MakeFault) (P : Type 0) → OnListed {T = T} (Err fault) P → OnListed {T = ⊤} (Err fault) P
+listed_at T (Unlisted error) P listed = tt
+listed_at T (Unsettled error) P listed = listed
 
-pub returns-in-Err-Unlisted-clause-open : goal.returns-in-Err-Unlisted-clause-open
-returns-in-Err-Unlisted-clause-open g c = λ told.
-    none_open g.N.FileNames.name g.F.Folder.name_of (g.F.Folder.past c.go_on-in-Err-Unlisted.new.self.folder) c.close.new.self c.close.ensures.written c.close.ensures.read
+listed_of : {T : Type 0} (result : Result T MakeFault) (fault : MakeFault) (P : Type 0) → result ≡ Err fault → OnListed result P → OnListed {T = ⊤} (Err fault) P
+listed_of {T} result fault P is listed = listed_at T fault P (subst (λ (r : Result T MakeFault). OnListed r P) is listed)
 
 pub returns-clause-creates : goal.returns-clause-creates
 returns-clause-creates g c =
-    let tells = g.F.Folder.tells in
-    let name = g.N.FileNames.name in
+    let name = g.N.FileNames.name c.args.kind c.known-number.result in
     let past_of = g.F.Folder.past in
     let old : State = state_of past_of c.args.self.now in
     let first : FolderPast = past_of c.check_in_place.new.folder in
     let past : FolderPast = past_of c.make_durably.new.folder in
-    let last : FolderPast = past_of c.lacks.new.self.timed.folder in
-    let rest = c.lacks.ensures.rest in
-    let number : c.known-number.result ≡ known_of old.warc old.cdxj c.args.kind = c.known-number.ensures in
-    let named : c.as_str.result.now ≡ name c.args.kind (known_of old.warc old.cdxj c.args.kind) =
-    c.as_str.ensures.value ∙ c.in_ok-name.ensures ∙ ap (name c.args.kind) number in
-    let trust : Trust = c.missed.new.self in
-    let absent : further_of old.trust c.args.kind ≡ Absent = c.has_further.ensures c.if-has_further.false in
-    let only : trust ≡ record (with_further c.args.kind Unsettled old.trust) { gave_up = trust.gave_up } =
-    c.missed.ensures.only ∙ (λ i. record (with_further c.args.kind Unsettled (rest i).trust) { gave_up = trust.gave_up }) in
-    let times : times_of c.go_on-in-Err-Unsettled.new.self ≡ goes_on old.times last = c.go_on-in-Err-Unsettled.ensures.times ∙ (λ i. goes_on (times_of (rest i).timed) last) in
-    let went : record { past = past_of c.go_on-in-Err-Unsettled.new.self.folder; warc = c.lacks.new.self.warc; cdxj = c.lacks.new.self.cdxj; trust = trust; times = times_of c.go_on-in-Err-Unsettled.new.self } ≡ trusted trust (next old last) =
-    λ i. record {
-      past = past_of (c.go_on-in-Err-Unsettled.ensures.folder i);
-      warc = (rest i).warc;
-      cdxj = (rest i).cdxj;
-      trust = trust;
-      times = times i;
-    } in
-    let partial : IsTrue tells → MakesInPart (name c.args.kind (known_of old.warc old.cdxj c.args.kind)) old.past last =
-    λ told. subst (λ (p : FolderPast). MakesInPart (name c.args.kind (known_of old.warc old.cdxj c.args.kind)) old.past p) (sym (c.lacks.ensures.same told))
-    (subst (λ (p : FolderPast). MakesInPart (name c.args.kind (known_of old.warc old.cdxj c.args.kind)) p past) (c.check_in_place.ensures told)
-    (subst (λ (n : List ℕ). MakesInPart n first past) named (c.make_durably.ensures.partial told))) in
-    let names : IsTrue tells → (m : List ℕ) → IsNameSureAt old.past m → IsNameSureAt last m =
-    λ told m sure. subst (λ (p : FolderPast). IsNameSureAt p m) (sym (c.lacks.ensures.same told))
-    (subst (λ r. OnListed r (IsNameSureAt past m)) (c.in-Err-Unsettled.is ∙ ap Err c.in-Err-Unsettled.field-0-is)
-    (c.make_durably.ensures.listed told m (subst (λ (p : FolderPast). IsNameSureAt p m) (sym (c.check_in_place.ensures told)) sure))) in
-    subst (λ (s : State). Creates {E = Error} tells name c.args.kind old s (Err c.is_there_already.result)) (sym went)
-    (create_missed tells name g.met.N.FileNames.apart c.args.kind old last trust (λ told. (c.requires.known told, partial told)) c.if-self.false absent
-    (missed_ranges c.args.kind trust.gave_up old.trust trust only)
-    (λ told. missed_now name c.args.kind old last trust (c.requires.known told) g.met.N.FileNames.apart trust.gave_up (partial told) absent only (names told))
-    {E = Error} c.is_there_already.result)
-
-pub returns-clause-open : goal.returns-clause-open
-returns-clause-open g c = λ told.
-    none_open g.N.FileNames.name g.F.Folder.name_of (g.F.Folder.past c.go_on-in-Err-Unsettled.new.self.folder) c.lacks.new.self.files
-    ((λ i. (c.lacks.ensures.rest i).files.written) ∙ c.close.ensures.written) ((λ i. (c.lacks.ensures.rest i).files.read) ∙ c.close.ensures.read)
+    let called : c.as_str.result.now ≡ name = c.as_str.ensures.value ∙ c.in_ok-name.ensures in
+    c.note_missed.ensures.creates old.past c.requires.known (λ told.
+    subst (λ (p : FolderPast). IsMissed name c.in-Err.fault p past) (c.check_in_place.ensures told)
+    (record {
+      partial = subst (λ (n : List ℕ). MakesInPart n first past) called (c.make_durably.ensures.partial told);
+      listed = λ m sure. listed_of c.make_durably.result c.in-Err.fault (IsNameSureAt past m) c.in-Err.is (c.make_durably.ensures.listed told m sure);
+    }))
