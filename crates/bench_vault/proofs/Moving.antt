@@ -4,8 +4,8 @@ use denote.Ref.{NamedLft}
 use denote.Param.Send.{IsSend, IsSync, sendable}
 use Rattle.std.proofs.Crossing.{crosses}
 use Rattle.disk_model.specs.declared.disk.Disk.{Ghosts}
-use Rattle.outside.proofs.memory_dialer.MemoryDialer.TheSendSync as dialer
-use Rattle.outside.proofs.memory_clock.MemoryClock.TheSendSync as clock
+use Rattle.outside.proofs.memory.dialer.MemoryDialer.TheSendSync as dialer
+use Rattle.outside.proofs.memory.clock.MemoryClock.TheSendSync as clock
 use Rattle.vault.specs.declared.naming.Naming.{Ghosts as Names}
 use Rattle.vault.proofs.Moving.{at_send}
 use Rattle.bench_stock.specs.contracts.connections.Connection as connection

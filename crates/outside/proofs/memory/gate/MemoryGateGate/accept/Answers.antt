@@ -2,7 +2,7 @@ use Rattle.std.proofs.Common.{ap, length, arith}
 use Rattle.std.specs.Vec.Iter.{into_iter_items}
 use Rattle.outside.specs.MemoryLink.{IsNew}
 use Rattle.outside.proofs.NewLinks.{All-left}
-use Rattle.outside.proofs.memory_gate.MemoryGateGate.accept.Goals as goal
+use Rattle.outside.proofs.memory.gate.MemoryGateGate.accept.Goals as goal
 
 pub invariant_of-self-2 : goal.invariant_of-self-2
 invariant_of-self-2 c =

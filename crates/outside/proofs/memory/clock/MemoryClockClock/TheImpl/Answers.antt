@@ -1,7 +1,7 @@
 use Rattle.std.proofs.Common.{◌≡◌, ◌+◌, ◌<◌, arith}
 use Rattle.outside.specs.Calls.{one_more}
 use Rattle.outside.proofs.Clocks.{length-first_answers, first_answers-next}
-use Rattle.outside.proofs.memory_clock.MemoryClockClock.TheImpl.Goals as goal
+use Rattle.outside.proofs.memory.clock.MemoryClockClock.TheImpl.Goals as goal
 
 pub now-tells : goal.now-tells
 now-tells c =

@@ -1,7 +1,7 @@
 use Rattle.std.specs.Vec.Iter.{into_iter_items}
 use Rattle.outside.specs.MemoryLink.{IsNew}
 use Rattle.outside.proofs.NewLinks.{IsNew-next_link, All-left}
-use Rattle.outside.proofs.memory_dialer.MemoryDialerDialer.dial.Goals as goal
+use Rattle.outside.proofs.memory.dialer.MemoryDialerDialer.dial.Goals as goal
 
 pub invariant_of-self-2 : goal.invariant_of-self-2
 invariant_of-self-2 c =
