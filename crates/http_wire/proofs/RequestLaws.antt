@@ -34,7 +34,7 @@ use Rattle.http_wire.specs.declared.held.Held.TheVariants.{Before, Open as OpenB
 use Rattle.http_wire.specs.declared.progress.Fed.{Fed}
 use Rattle.http_wire.specs.declared.progress.Progress.{Progress}
 use Rattle.http_wire.specs.declared.progress.Progress.TheVariants as progress
-use Rattle.http_wire.specs.declared.request_parts.RequestParts.{RequestParts}
+use Rattle.http_wire.specs.declared.request.parts.RequestParts.{RequestParts}
 use Rattle.http_wire.proofs.HeldLaws.{begun_goes_on, agrees_behind, held_reaches, held_whole}
 use Rattle.http_wire.proofs.StandingLaws.{goes_on_behind, holds_message, needs_body, cut_needs, ends_with, lacks_none, none_lacks_head, open_lacks_head, too_long_lacks_head, open_has_no_head, too_long, told_fault, no_head as no_head_fault}
 

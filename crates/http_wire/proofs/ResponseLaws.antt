@@ -34,7 +34,7 @@ use Rattle.http_wire.specs.declared.held.Held.TheVariants.{Before, Open as OpenB
 use Rattle.http_wire.specs.declared.progress.Fed.{Fed}
 use Rattle.http_wire.specs.declared.progress.Progress.{Progress}
 use Rattle.http_wire.specs.declared.progress.Progress.TheVariants as progress
-use Rattle.http_wire.specs.declared.response_parts.ResponseParts.{ResponseParts}
+use Rattle.http_wire.specs.declared.response.parts.ResponseParts.{ResponseParts}
 use Rattle.http_wire.proofs.HeldLaws.{begun_goes_on, agrees_behind, held_reaches, held_whole}
 use Rattle.http_wire.proofs.RequestLaws.{Sound, open_is_sound, closed_is_sound, bytes_of_front, same_text}
 use Rattle.http_wire.proofs.StandingLaws.{needs_head, goes_on_behind, ends_with, lacks_none, none_lacks_head, open_lacks_head, too_long_lacks_head, open_has_no_head, too_long, told_fault, no_head as no_head_fault}

@@ -5,8 +5,8 @@ use Rattle.http_head.specs.declared.head.WireFault.{WireFault}
 use Rattle.http_wire.specs.Heads.{HoldsHead, HoldsResponseHead}
 use Rattle.http_wire.specs.HeldBodies.{held_bytes, standing_of, Agrees}
 use Rattle.http_wire.specs.declared.held.Held.TheVariants as held
-use Rattle.http_wire.specs.declared.request_parts.RequestParts.{RequestParts}
-use Rattle.http_wire.specs.declared.response_parts.ResponseParts.{ResponseParts}
+use Rattle.http_wire.specs.declared.request.parts.RequestParts.{RequestParts}
+use Rattle.http_wire.specs.declared.response.parts.ResponseParts.{ResponseParts}
 
 -- the stream so far
 abbrev pub request_bytes : RequestParts → List ℕ

@@ -6,12 +6,8 @@ mod framing;
 mod held;
 mod laws;
 mod progress;
-mod request_method;
-mod request_parts;
-mod request_reader;
-mod response_parts;
-mod response_reader;
-mod whole_request;
+mod request;
+mod response;
 
 pub use http_head::{
     Field, HeadFed, HeadProgress, HeadReader, Received, RequestHead, RequestMessage, ResponseHead,
@@ -25,7 +21,7 @@ pub use message_body::{
     request_framing_of, split_member,
 };
 pub use progress::{Fed, Progress};
-pub use request_method::request_method_in;
-pub use request_reader::RequestReader;
-pub use response_reader::ResponseReader;
-pub use whole_request::read_request;
+pub use request::method::request_method_in;
+pub use request::reader::RequestReader;
+pub use request::whole::read_request;
+pub use response::reader::ResponseReader;

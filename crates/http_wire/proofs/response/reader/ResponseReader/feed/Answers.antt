@@ -1,0 +1,20 @@
+use Rattle.std.proofs.Common.{None, refl, sym, ap, subst}
+use Rattle.capture.specs.First.{Responses}
+use Rattle.http_head.proofs.FrontLaws.{heads_stay}
+use Rattle.http_wire.specs.HeldBodies.{standing_of}
+use Rattle.http_wire.specs.Parts.{response_bytes}
+use Rattle.http_wire.specs.Reading.{Stands}
+use Rattle.http_wire.proofs.HeldLaws.{agrees_stand}
+use Rattle.http_wire.proofs.StandingLaws.{takes_nothing}
+use Rattle.http_wire.proofs.response.reader.ResponseReader.feed.Goals as goal
+
+pub returns-in-Ok-clause-stands : goal.returns-in-Ok-clause-stands
+returns-in-Ok-clause-stands c =
+    let now = c.feed.new.self in
+    subst (λ ah. Stands (Responses ah) (response_bytes now) (standing_of c.self.inside.fault now.held)) (ap (λ r. r.answers_head) c.self.view_is)
+    (subst (λ f. Stands (Responses c.self.inside.answers_head) (response_bytes now) (standing_of f now.held)) (sym c.in-None.is)
+    (agrees_stand heads_stay (Responses c.self.inside.answers_head) now.front now.held None c.in-Ok.ensures.agrees.body))
+
+pub returns-in-Some-clause-takes_some : goal.returns-in-Some-clause-takes_some
+returns-in-Some-clause-takes_some c =
+    (0, takes_nothing (Responses c.args.self.now.answers_head) c.args.self.now.stream c.args.piece.now c.args.self.now.stream refl)

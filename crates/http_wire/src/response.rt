@@ -1,0 +1,3 @@
+//! Responses as they come in pieces.
+pub(crate) mod parts;
+pub(crate) mod reader;
