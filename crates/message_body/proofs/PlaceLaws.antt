@@ -11,8 +11,8 @@ use Rattle.capture.specs.declared.framing.MessageFault.{MessageFault}
 use Rattle.capture.specs.declared.framing.MessageFault.TheVariants.{Malformed, BodyTooLong}
 use Rattle.capture.specs.declared.limits.TheConstants.{BODY_LIMIT, SIZE_LINE_LIMIT}
 use Rattle.message_body.specs.steps.ChunkPlaces.{IsCutAt, InLineAt, InDataAt, InTrailerAt, StandsAt, IsGoing}
-use Rattle.message_body.specs.declared.chunk_place.ChunkPlace.{ChunkPlace}
-use Rattle.message_body.specs.declared.chunk_place.ChunkPlace.TheVariants.{Line, Data, LineEnd, LineEndCr, Trailer, Whole, Refused}
+use Rattle.message_body.specs.declared.chunks.place.ChunkPlace.{ChunkPlace}
+use Rattle.message_body.specs.declared.chunks.place.ChunkPlace.TheVariants.{Line, Data, LineEnd, LineEndCr, Trailer, Whole, Refused}
 use Rattle.message_body.specs.declared.trailer.TrailerPlace.TheVariants.{LineStart}
 
 -- ---- what came, in bytes

@@ -4,8 +4,8 @@ use Rattle.capture.specs.declared.framing.Framing.{Framing}
 use Rattle.capture.specs.declared.framing.Framing.TheVariants as framing
 use Rattle.capture.specs.declared.limits.TheConstants.{BODY_LIMIT}
 use Rattle.message_body.specs.steps.ChunkPlaces.{StandsAt}
-use Rattle.message_body.specs.declared.chunk_place.ChunkPlace.{ChunkPlace}
-use Rattle.message_body.specs.declared.chunk_place.ChunkPlace.TheVariants.{Line, Data, LineEnd, LineEndCr, Trailer, Whole, Refused}
+use Rattle.message_body.specs.declared.chunks.place.ChunkPlace.{ChunkPlace}
+use Rattle.message_body.specs.declared.chunks.place.ChunkPlace.TheVariants.{Line, Data, LineEnd, LineEndCr, Trailer, Whole, Refused}
 use Rattle.message_body.specs.declared.fed.BodyProgress.{BodyProgress}
 use Rattle.message_body.specs.declared.fed.BodyProgress.TheVariants.{More}
 use Rattle.message_body.specs.declared.fed.BodyProgress.TheVariants as progress

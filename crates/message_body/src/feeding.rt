@@ -6,8 +6,8 @@ ghost use Rattle.message_body.specs.BodySoFar.{ReachesBody, IsSoonest};
 ghost use Rattle.message_body.specs.steps.ChunkPlaces.{StandsAt, IsGoing};
 ghost use Rattle.message_body.specs.Readings as spec;
 
-use crate::chunk_place::{ChunkPlace, ChunkStep};
-use crate::chunk_reading::read_chunks;
+use crate::chunks::place::{ChunkPlace, ChunkStep};
+use crate::chunks::reading::read_chunks;
 use crate::fed::{BodyFed, BodyProgress};
 use capture::{BODY_LIMIT, Memory, MessageFault};
 

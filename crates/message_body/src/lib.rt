@@ -1,11 +1,7 @@
 //! Bodies of HTTP/1.1 messages: as they stand on the wire, read piece by piece, and their payloads.
 #![tactic(auto)]
 
-mod chunk_end;
-mod chunk_line;
-mod chunk_place;
-mod chunk_reading;
-mod chunk_trailer;
+mod chunks;
 mod content_length;
 mod decode;
 mod fed;

@@ -3,7 +3,7 @@ ghost use Rattle.std.specs.Prelude.{◌≡◌, ◌≤◌, [], false, length, tak
 ghost use Rattle.message_body.specs.BodySoFar.{IsShortFraming, IsOpenBody, EndsWhole, EndsCut, ReachesBody, IsSoonest};
 ghost use Rattle.message_body.specs.BodyStream.{further_on};
 
-use crate::chunk_place::ChunkPlace;
+use crate::chunks::place::ChunkPlace;
 use crate::fed::{BodyFed, BodyProgress};
 use crate::feeding::{feed_chunks, feed_length, feed_to_end, progress_of};
 use crate::reading::Reading;

@@ -1,6 +1,6 @@
 //! What a reader of a body does with the bytes that come.
 
-use crate::chunk_place::ChunkPlace;
+use crate::chunks::place::ChunkPlace;
 
 /// How a body is read, by what tells its length.
 #[derive(Clone, Copy)]

@@ -9,8 +9,8 @@ use Rattle.capture.specs.FirstChunks.{HoldsChunked, RefusesChunked}
 use Rattle.message_body.specs.steps.TrailerPlaces.{place_after}
 use Rattle.message_body.specs.declared.trailer.TrailerPlace.{TrailerPlace}
 use Rattle.message_body.specs.declared.trailer.TrailerPlace.TheVariants.{LineStart, Ended}
-use Rattle.message_body.specs.declared.chunk_place.ChunkPlace.{ChunkPlace}
-use Rattle.message_body.specs.declared.chunk_place.ChunkPlace.TheVariants.{Line, Data, LineEnd, LineEndCr, Trailer, Whole, Refused}
+use Rattle.message_body.specs.declared.chunks.place.ChunkPlace.{ChunkPlace}
+use Rattle.message_body.specs.declared.chunks.place.ChunkPlace.TheVariants.{Line, Data, LineEnd, LineEndCr, Trailer, Whole, Refused}
 
 -- the stream is these chunks and what is begun, within the limits
 pub record IsCutAt (chunks : List Chunk) (begun : Begun) (stream : List ℕ) : Type 0 where

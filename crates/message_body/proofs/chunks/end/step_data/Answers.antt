@@ -1,6 +1,6 @@
 use Rattle.std.proofs.Common.{arith, rules}
 use Rattle.message_body.proofs.ChunkEndSteps.{data_goes_on_at, data_ends_at, some_left_at}
-use Rattle.message_body.proofs.chunk_end.step_data.Goals as goal
+use Rattle.message_body.proofs.chunks.end.step_data.Goals as goal
 
 pub returns-then-rest-left : goal.returns-then-rest-left
 returns-then-rest-left c = record {

@@ -2,7 +2,7 @@ use Rattle.std.proofs.Common.{◌-◌, ◌<◌, ◌≤◌, length, take}
 use Rattle.capture.specs.Body.{IsCutWire}
 use Rattle.capture.specs.declared.framing.Framing.TheVariants.{Chunked}
 use Rattle.message_body.specs.steps.ChunkPlaces.{StandsAt, IsGoing}
-use Rattle.message_body.proofs.chunk_reading.read_chunks.Given as goal
+use Rattle.message_body.proofs.chunks.reading.read_chunks.Given as goal
 
 abbrev pub invariant-steps : goal.invariant-steps
 invariant-steps l = record {

@@ -1,7 +1,7 @@
 use Rattle.std.proofs.Common.{take, arith}
 use Rattle.message_body.proofs.PlaceLaws.{line_starts, line_fits, line_is_short}
 use Rattle.message_body.proofs.LineSteps.{len_at, line_over_at, line_too_long_at, line_goes_on_at}
-use Rattle.message_body.proofs.chunk_line.step_line.Goals as goal
+use Rattle.message_body.proofs.chunks.line.step_line.Goals as goal
 
 pub returns-then-at-eq-BODY_LIMIT : goal.returns-then-at-eq-BODY_LIMIT
 returns-then-at-eq-BODY_LIMIT c =

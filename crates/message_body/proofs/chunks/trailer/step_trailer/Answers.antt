@@ -1,7 +1,7 @@
 use Rattle.std.proofs.Common.{take, subst, sym, ◌+◌, ◌∙◌}
 use Rattle.message_body.specs.steps.ChunkPlaces.{InTrailerAt}
 use Rattle.message_body.proofs.ChunkTrailerSteps.{TrailerByte, too_long_at, over_at, goes_on_at}
-use Rattle.message_body.proofs.chunk_trailer.step_trailer.Goals as goal
+use Rattle.message_body.proofs.chunks.trailer.step_trailer.Goals as goal
 
 pub returns-then-come-gt-HEAD_LIMIT : goal.returns-then-come-gt-HEAD_LIMIT
 returns-then-come-gt-HEAD_LIMIT c =

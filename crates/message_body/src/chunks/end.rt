@@ -3,7 +3,7 @@ ghost use Rattle.std.specs.Prelude.{◌≡◌, ◌+◌, ◌<◌, ◌≤◌, [], 
 ghost use Rattle.httparse.specs.Ascii.{carriage_return};
 ghost use Rattle.message_body.specs.steps.ChunkPlaces.{StandsAt, IsGoing, InDataAt, InLineEndAt};
 
-use crate::chunk_place::{ChunkPlace, ChunkStep};
+use crate::chunks::place::{ChunkPlace, ChunkStep};
 use capture::{BODY_LIMIT, MessageFault};
 
 /// Where the body stands behind the byte at this index, which stands behind a chunk's data.

@@ -1,5 +1,5 @@
 use Rattle.message_body.proofs.LineSteps.{line_at, none_at, never_at, other_len_at, big_at, trailer_at, data_at}
-use Rattle.message_body.proofs.chunk_line.judge_line.Goals as goal
+use Rattle.message_body.proofs.chunks.line.judge_line.Goals as goal
 
 pub returns-then-len-line : goal.returns-then-len-line
 returns-then-len-line c =

@@ -1,6 +1,6 @@
 use Rattle.std.proofs.Common.{ap, drop, ◌∙◌}
 use Rattle.message_body.proofs.ChunkTrailerSteps.{SectionEnd, many_lines_at, end_over_at, body_ends_at, no_section_at, told_section, told_none}
-use Rattle.message_body.proofs.chunk_trailer.judge_trailer.Goals as goal
+use Rattle.message_body.proofs.chunks.trailer.judge_trailer.Goals as goal
 
 pub returns-then-count_line_feeds : goal.returns-then-count_line_feeds
 returns-then-count_line_feeds c =

@@ -4,10 +4,10 @@ ghost use Rattle.capture.specs.Body.{IsCutWire};
 ghost use Rattle.capture.specs.declared.framing.Framing.TheVariants.{Chunked};
 ghost use Rattle.message_body.specs.steps.ChunkPlaces.{StandsAt, IsGoing, InLineAt, InTrailerAt};
 
-use crate::chunk_end::{step_data, step_line_end, step_line_end_cr};
-use crate::chunk_line::step_line;
-use crate::chunk_place::{ChunkPlace, ChunkStep};
-use crate::chunk_trailer::step_trailer;
+use crate::chunks::end::{step_data, step_line_end, step_line_end_cr};
+use crate::chunks::line::step_line;
+use crate::chunks::place::{ChunkPlace, ChunkStep};
+use crate::chunks::trailer::step_trailer;
 use crate::runs::{skip_size_line, skip_trailer_line};
 use crate::trailer::TrailerPlace;
 use capture::Memory;

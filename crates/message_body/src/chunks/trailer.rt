@@ -3,7 +3,7 @@ ghost use Rattle.std.specs.Prelude.{◌≡◌, ◌+◌, ◌<◌, ◌≤◌, leng
 ghost use Rattle.message_body.specs.steps.ChunkPlaces.{StandsAt, InTrailerAt};
 ghost use Rattle.message_body.specs.steps.TrailerPlaces.{next_place};
 
-use crate::chunk_place::ChunkPlace;
+use crate::chunks::place::ChunkPlace;
 use crate::trailer::TrailerPlace;
 use capture::{BODY_LIMIT, FIELD_LIMIT, HEAD_LIMIT, Memory, MessageFault};
 use http_head::{count_line_feeds, is_section};

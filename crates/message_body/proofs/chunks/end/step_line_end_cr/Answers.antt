@@ -1,5 +1,5 @@
 use Rattle.message_body.proofs.ChunkEndSteps.{over_at, no_lf_at, lf_at}
-use Rattle.message_body.proofs.chunk_end.step_line_end_cr.Goals as goal
+use Rattle.message_body.proofs.chunks.end.step_line_end_cr.Goals as goal
 
 pub returns-then-at-eq-BODY_LIMIT : goal.returns-then-at-eq-BODY_LIMIT
 returns-then-at-eq-BODY_LIMIT c = over_at c.args.text.now c.args.at _ c.requires.inside c.requires.stands c.if-at-eq-BODY_LIMIT.true

@@ -3,7 +3,7 @@ ghost use Rattle.std.specs.Prelude.{◌≡◌, ◌+◌, ◌<◌, length, take, s
 ghost use Rattle.httparse.specs.Ascii.{line_feed};
 ghost use Rattle.message_body.specs.steps.ChunkPlaces.{StandsAt, InLineAt};
 
-use crate::chunk_place::ChunkPlace;
+use crate::chunks::place::ChunkPlace;
 use crate::trailer::TrailerPlace;
 use capture::{BODY_LIMIT, MessageFault, SIZE_LINE_LIMIT};
 use httparse::{Status, parse_chunk_size};
