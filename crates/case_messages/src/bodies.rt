@@ -1,10 +1,11 @@
-//! Calls of `message_body` over bodies. Each text begins with what tells the body's length.
+//! Calls of `body_reader` and `message_body` over bodies. Each text begins with what tells the body's length.
 use crate::faults::fault_text;
 use crate::framings::split_framing;
+use body_reader::{BodyProgress, BodyReader};
 use capture::{BODY_LIMIT, Bytes, Framing, Memory};
 use case_language::in_pieces;
 use case_texts::{always, put_next, put_next_number, told};
-use message_body::{BodyProgress, BodyReader, PayloadFault, payload_of, payload_of_cut};
+use message_body::{PayloadFault, payload_of, payload_of_cut};
 use std::alloc::Global;
 
 /// How far a body comes that is fed in pieces, how many bytes were taken, and its payload as far as it came. What tells

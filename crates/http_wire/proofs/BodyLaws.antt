@@ -9,9 +9,9 @@ use Rattle.capture.specs.declared.framing.Framing.{Framing}
 use Rattle.capture.specs.declared.framing.Framing.TheVariants.{Chunked}
 use Rattle.capture.specs.declared.framing.MessageFault.{MessageFault}
 use Rattle.capture.specs.declared.memory.Memory.{Memory}
-use Rattle.message_body.specs.BodySoFar.{IsOpenBody}
-use Rattle.message_body.specs.BodyStream.{BodyStream, further_on}
-use Rattle.message_body.specs.declared.fed.BodyProgress.TheVariants.{More, Whole, Refused}
+use Rattle.body_reader.specs.BodySoFar.{IsOpenBody}
+use Rattle.body_reader.specs.BodyStream.{BodyStream, further_on}
+use Rattle.body_reader.specs.declared.fed.BodyProgress.TheVariants.{More, Whole, Refused}
 use Rattle.http_wire.specs.HeldBodies.{IsBegun, held_bytes, TakesBody, TakesSomeBody}
 use Rattle.http_wire.specs.declared.held.Held.{Held}
 use Rattle.http_wire.specs.declared.held.Held.TheVariants.{Open}

@@ -19,8 +19,8 @@ use Rattle.http_head.specs.declared.head.ResponseHead.{ResponseHead}
 use Rattle.http_head.specs.declared.head.WireFault.{WireFault}
 use Rattle.http_head.specs.declared.head.WireFault.TheVariants.{Malformed, HeadTooLong, BodyTooLong, CodingRefused, EndedEarly, Memory}
 use Rattle.message_body.specs.BodyLaws.{HeldBodiesAreBodies}
-use Rattle.message_body.specs.BodySoFar.{IsOpenBody}
-use Rattle.message_body.specs.BodyStream.{BodyStream}
+use Rattle.body_reader.specs.BodySoFar.{IsOpenBody}
+use Rattle.body_reader.specs.BodyStream.{BodyStream}
 use Rattle.http_wire.specs.Answers.{Reaches, HeadsBy, IsWholeNow}
 use Rattle.http_wire.specs.Heads.{BeginsWithResponse, HoldsResponseHead}
 use Rattle.http_wire.specs.HeldBodies.{held_bytes, held_standing, closed_standing, standing_of, fault_of, GoesOn, IsClosed, IsBegun, HoldsAt, Holds, TakesBody, TakesSomeBody}

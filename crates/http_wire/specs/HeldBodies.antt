@@ -7,8 +7,8 @@ use Rattle.capture.specs.declared.framing.MessageFault.{MessageFault}
 use Rattle.http_head.specs.HeadReading.{IsOpen}
 use Rattle.http_head.specs.declared.head.WireFault.{WireFault}
 use Rattle.http_head.specs.declared.head.WireFault.TheVariants as wire_fault
-use Rattle.message_body.specs.BodySoFar.{IsOpenBody}
-use Rattle.message_body.specs.BodyStream.{BodyStream, further_on}
+use Rattle.body_reader.specs.BodySoFar.{IsOpenBody}
+use Rattle.body_reader.specs.BodyStream.{BodyStream, further_on}
 use Rattle.http_wire.specs.Reading.{Standing, Open, Whole, Cut, Failed, EndsWithHead, HasFault, fault_in}
 use Rattle.http_wire.specs.declared.held.Held.{Held}
 use Rattle.http_wire.specs.declared.held.Held.TheVariants as held

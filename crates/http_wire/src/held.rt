@@ -1,14 +1,15 @@
 //! A body that is read.
 ghost use Rattle.std.specs.Prelude.{◌≡◌, [], false, length, IfOk, IfErr};
 ghost use Rattle.capture.specs.Payload.{IsPayload};
-ghost use Rattle.message_body.specs.BodySoFar.{IsOpenBody, IsShortFraming};
+ghost use Rattle.body_reader.specs.BodySoFar.{IsOpenBody, IsShortFraming};
 ghost use Rattle.http_wire.specs.HeldBodies.{IsBegun, TakesBody, TakesSomeBody, Holds};
 ghost use Rattle.http_wire.specs.Reading.{fault_in};
 
 use crate::progress::{Fed, Progress};
+use body_reader::{BodyProgress, BodyReader};
 use capture::{Bytes, Framing, Memory, MessageFault};
 use http_head::WireFault;
-use message_body::{BodyProgress, BodyReader, payload_of};
+use message_body::payload_of;
 use std::alloc::Global;
 
 /// A body that has come to its end.

@@ -9,6 +9,7 @@ mod progress;
 mod request;
 mod response;
 
+pub use body_reader::{BodyFed, BodyProgress, BodyReader};
 pub use http_head::{
     Field, HeadFed, HeadProgress, HeadReader, Received, RequestHead, RequestMessage, ResponseHead,
     Version, WireFault, find_head_end, find_section_end, first_value, fronts_stay, read_head,
@@ -16,9 +17,8 @@ pub use http_head::{
 };
 pub use laws::{decisions_are_one, decisions_stay, responses_can_be_stored};
 pub use message_body::{
-    BodyFed, BodyProgress, BodyReader, Number, Payload, PayloadFault, framing_of,
-    heads_tell_framings, held_bodies_are_bodies, payload_in, payload_of, payload_of_cut,
-    request_framing_of, split_member,
+    Number, Payload, PayloadFault, framing_of, heads_tell_framings, held_bodies_are_bodies,
+    payload_in, payload_of, payload_of_cut, request_framing_of, split_member,
 };
 pub use progress::{Fed, Progress};
 pub use request::method::request_method_in;

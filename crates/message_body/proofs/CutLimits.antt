@@ -1,12 +1,12 @@
 -- The limits of a chunked body that was cut, as a walk over its chunks finds them.
-use Rattle.std.proofs.Common.{◌≡◌, ◌≢◌, ℕ, ◌+◌, ◌-◌, ◌<◌, ◌≤◌, inl, inr, Bool, List, [], ◌∷◌, ◌++◌, length, drop, take, leb, length-append, append_assoc, append-nil, refl, sym, ap, subst, ◌∙◌, arith}
+use Rattle.std.proofs.Common.{◌≡◌, ◌≢◌, ℕ, ◌+◌, ◌-◌, ◌<◌, ◌≤◌, inl, inr, Bool, List, [], ◌∷◌, ◌++◌, length, drop, take, leb, length-append, append_assoc, refl, sym, ap, subst, ◌∙◌, arith}
 use Rattle.std.specs.Prelude.{◌↔◌, All, IsTrue}
 use Rattle.std.specs.List.{flat_map}
 use Rattle.std.proofs.lemmas.Bool.{le-leb, leb-true}
 use Rattle.std.proofs.lemmas.List.{take_all, take_at, drop_at, take-append-drop}
 use Rattle.std.proofs.lemmas.List.Elements.{All-cons, All-head, All-nil, All-tail}
 use Rattle.httparse.specs.Ascii.{crlf_bytes}
-use Rattle.httparse.specs.Grammar.{ChunkLine, chunk_size, print_chunk_line, print_extension, IsChunkLine, HasNoChunkLine, NeverHasChunkLine}
+use Rattle.httparse.specs.Grammar.{ChunkLine, chunk_size, print_chunk_line, print_extension, IsChunkLine, HasNoChunkLine}
 use Rattle.httparse.specs.Spans.{IsChunkLineAt}
 use Rattle.httparse.proofs.ChunkLemmas.{chunk_line_unique}
 use Rattle.capture.specs.Body.{HasShortLines, IsShortBegun, IsShortLine, IsWithinLimits, announced}
@@ -49,9 +49,6 @@ no_line_without_lf text line rest none first =
     let front : List ℕ = line.digits ++ line.pad ++ print_extension line.extension in
     let e : text ≡ front ++ 13 ∷ 10 ∷ rest = first.composed ∙ append_assoc front (13 ∷ 10 ∷ []) rest in
     no_lf_behind front rest (subst (All (λ b. b ≢ 10)) e none)
-
-pub never_is_none : (text : List ℕ) → NeverHasChunkLine text → HasNoChunkLine text
-never_is_none text never = λ l rest reads. never [] l rest (reads.0, append-nil text ∙ reads.1)
 
 -- ---- bodies that were cut
 

@@ -1,19 +1,10 @@
-mod ChunkEndLaws
-mod ChunkEndSteps
-mod ChunkTrailerLaws
-mod ChunkTrailerSteps
 mod CutLimits
 mod DecodeLaws
-mod FeedLaws
 mod FieldLaws
 pub mod HeldLaws
 mod InPlaceLaws
-mod LineSteps
 mod MemberLaws
 mod NumberLaws
-mod PlaceLaws
-mod RunLaws
 mod SliceLaws
 mod SplitLaws
 mod SplitSteps
-mod TrailerLaws

@@ -1,6 +1,4 @@
 -- What only proofs read: no public clause comes to it.
-pub mod ChunkPlaces
 pub mod Decoding
 pub mod Numerals
 pub mod Splits
-pub mod TrailerPlaces

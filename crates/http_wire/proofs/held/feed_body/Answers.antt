@@ -1,5 +1,5 @@
 use Rattle.std.proofs.Common.{sym, ap, subst, refl, ◌∙◌}
-use Rattle.message_body.specs.BodySoFar.{ReachesBody}
+use Rattle.body_reader.specs.BodySoFar.{ReachesBody}
 use Rattle.http_wire.specs.HeldBodies.{held_bytes}
 use Rattle.http_wire.proofs.BodyLaws.{takes_more, takes_all, takes_nothing, whole_is_not_more, refused_is_not_more}
 use Rattle.http_wire.proofs.held.feed_body.Goals as goal

@@ -1,6 +1,7 @@
 use Rattle.std.proofs.Common.{length, refl, arith}
 use Rattle.std.proofs.lemmas.Bool.{false≢true, le-leb, leb-true}
-use Rattle.message_body.proofs.CutLimits.{goes_behind, judged_last_line, judged_line_end, judged_long_line, judged_open, judged_size, line_at, never_is_none, split_is}
+use Rattle.message_body.proofs.CutLimits.{goes_behind, judged_last_line, judged_line_end, judged_long_line, judged_open, judged_size, line_at, split_is}
+use Rattle.message_body.proofs.SplitSteps.{never_is_none}
 use Rattle.message_body.proofs.limits.is_within_limits.Goals as goal
 
 pub returns-in-Ok-Partial : goal.returns-in-Ok-Partial

@@ -1,0 +1,9 @@
+mod ChunkEndLaws
+mod ChunkEndSteps
+mod ChunkTrailerLaws
+mod ChunkTrailerSteps
+mod FeedLaws
+mod LineSteps
+mod PlaceLaws
+mod RunLaws
+mod TrailerLaws

@@ -1,0 +1,4 @@
+pub mod BodySoFar
+pub mod BodyStream
+pub mod Readings
+pub mod steps
