@@ -1,11 +1,9 @@
 -- What is told of a body, within its limit.
 use Rattle.std.proofs.Common.{◌≡◌, ℕ, ◌<◌, ◌≤◌, ◌^◌, ltb, Some, None, Ok, Err, refl, sym, ap, ◌∙◌, arith}
-use Rattle.std.specs.Prelude.{Result}
 use Rattle.std.proofs.lemmas.Bool.{cond_both, lt-ltb, le-ltb, ltb-false}
 use Rattle.capture.specs.First.{fault_at_head}
 use Rattle.capture.specs.declared.framing.Framing.{Framing}
 use Rattle.capture.specs.declared.framing.Framing.TheVariants.{Empty, Length, Chunked, ToEnd}
-use Rattle.capture.specs.declared.framing.FramingFault.{FramingFault}
 use Rattle.capture.specs.declared.framing.FramingFault.TheVariants.{Malformed, CodingRefused}
 use Rattle.capture.specs.declared.framing.MessageFault.TheVariants as due
 use Rattle.capture.specs.declared.limits.TheConstants.{BODY_LIMIT}
@@ -13,42 +11,10 @@ use Rattle.http_head.specs.declared.head.WireFault.{WireFault}
 use Rattle.http_head.specs.declared.head.WireFault.TheVariants as wire
 use Rattle.message_body.specs.Framings.{framing_answer}
 use Rattle.http_wire.specs.steps.Told.{IsTold}
-
-abbrev Answer : Type 0
-Answer = Result Framing WireFault
-
-abbrev told_ok : Framing → Answer
-told_ok framing = Ok framing
-
-abbrev told_err : WireFault → Answer
-told_err fault = Err fault
-
-ok_is_no_err : (framing : Framing) (fault : WireFault) → told_ok framing ≡ told_err fault → ⊥
-ok_is_no_err framing fault e = cc
-
-same_framing : (a b : Framing) → told_ok a ≡ told_ok b → b ≡ a
-same_framing a b e = cc
+use Rattle.message_body.proofs.ToldFramings.{Told, ok_is_no_err, ok_was_told, telling, told_err, told_ok}
 
 same_fault : (a b : WireFault) → told_err a ≡ told_err b → a ≡ b
 same_fault a b e = cc
-
-abbrev Told : Type 0
-Told = Result Framing FramingFault
-
-abbrev telling : Framing → Told
-telling framing = Ok framing
-
--- an answer that is a framing was told
-pub ok_was_told : (told : Told) (framing : Framing) → told_ok framing ≡ framing_answer told → told ≡ telling framing
-ok_was_told (Ok Empty) framing e = ap telling (same_framing framing Empty e)
-ok_was_told (Ok (Length n)) framing e =
-    cond_both (ltb n (2 ^ 64)) (told_ok (Length n)) (told_err wire.BodyTooLong)
-    (λ a. told_ok framing ≡ a → telling (Length n) ≡ telling framing)
-    (λ _ d. ap telling (same_framing framing (Length n) d)) (λ _ d. absurd (ok_is_no_err framing wire.BodyTooLong d)) e
-ok_was_told (Ok Chunked) framing e = ap telling (same_framing framing Chunked e)
-ok_was_told (Ok ToEnd) framing e = ap telling (same_framing framing ToEnd e)
-ok_was_told (Err Malformed) framing e = absurd (ok_is_no_err framing wire.Malformed e)
-ok_was_told (Err CodingRefused) framing e = absurd (ok_is_no_err framing wire.CodingRefused e)
 
 -- and within the limit
 pub told_within : (told : Told) (framing : Framing) → told_ok framing ≡ framing_answer told → fault_at_head (telling framing) ≡ None

@@ -4,10 +4,8 @@ pub mod DecisionLaws
 mod Exits
 mod FramingLaws
 pub mod FrontParts
-pub mod HeadEnds
 mod HeldLaws
 pub mod LineFronts
-mod MethodLaws
 pub mod OneArrival
 pub mod OneBody
 pub mod OneFirst
@@ -17,4 +15,3 @@ pub mod RespondLaws
 mod ResponseLaws
 mod SectionFronts
 mod StandingLaws
-mod WholeLaws

@@ -8,5 +8,4 @@ pub mod Reading
 pub mod RequestReading
 pub mod ResponseReading
 pub mod Storing
-pub mod WholeRequests
 pub mod steps

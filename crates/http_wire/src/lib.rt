@@ -21,7 +21,6 @@ pub use message_body::{
     payload_in, payload_of, payload_of_cut, request_framing_of, split_member,
 };
 pub use progress::{Fed, Progress};
-pub use request::method::request_method_in;
 pub use request::reader::RequestReader;
-pub use request::whole::read_request;
 pub use response::reader::ResponseReader;
+pub use whole_request::{read_request, request_method_in};

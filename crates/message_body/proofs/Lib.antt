@@ -8,3 +8,4 @@ mod NumberLaws
 mod SliceLaws
 mod SplitLaws
 mod SplitSteps
+pub mod ToldFramings

@@ -1,6 +1,6 @@
 use Rattle.std.proofs.Common.{sym, ◌∙◌}
-use Rattle.http_wire.proofs.MethodLaws.{bare_method_of, body_is_empty, no_bytes, some_bytes}
-use Rattle.http_wire.proofs.request.method.method_before.Goals as goal
+use Rattle.whole_request.proofs.MethodLaws.{bare_method_of, body_is_empty, no_bytes, some_bytes}
+use Rattle.whole_request.proofs.method.method_before.Goals as goal
 
 pub returns-then-is_empty-clause-ok : goal.returns-then-is_empty-clause-ok
 returns-then-is_empty-clause-ok c =

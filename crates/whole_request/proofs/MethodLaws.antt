@@ -15,8 +15,8 @@ use Rattle.http_head.specs.declared.head.RequestHead.{RequestHead}
 use Rattle.http_head.specs.declared.head.RequestOutline.{RequestOutline}
 use Rattle.http_head.specs.declared.head.WireFault.{WireFault}
 use Rattle.message_body.specs.Framings.{framing_answer, told_by_request}
-use Rattle.http_wire.proofs.FramingLaws.{ok_was_told}
-use Rattle.http_wire.proofs.WholeLaws.{begins_with_rest, one_framing, parts_tell, same_head}
+use Rattle.message_body.proofs.ToldFramings.{ok_was_told}
+use Rattle.whole_request.proofs.WholeLaws.{begins_with_rest, one_framing, parts_tell, same_head}
 
 -- ---- a head in parts
 

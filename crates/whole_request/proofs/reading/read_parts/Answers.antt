@@ -1,7 +1,7 @@
 use Rattle.std.proofs.Common.{Err, ap, arith}
-use Rattle.http_wire.proofs.Exits.{at_malformed}
-use Rattle.http_wire.proofs.WholeLaws.{untold, bodiless}
-use Rattle.http_wire.proofs.request.whole.read_parts.Goals as goal
+use Rattle.whole_request.proofs.Exits.{at_malformed}
+use Rattle.whole_request.proofs.WholeLaws.{untold, bodiless}
+use Rattle.whole_request.proofs.reading.read_parts.Goals as goal
 
 pub returns-in_err-head-clause-malformed : goal.returns-in_err-head-clause-malformed
 returns-in_err-head-clause-malformed c = λ is h framing reads told body.

@@ -1,5 +1,5 @@
 //! Reads a request that is there whole.
-ghost use Rattle.std.specs.Prelude.{◌≡◌, ◌++◌, ℕ, List, false, length, Ok, IfOk, IfErr, IsErrOf};
+ghost use Rattle.std.specs.Prelude.{◌≡◌, ◌++◌, ℕ, List, false, Ok, IfOk, IfErr, IsErrOf};
 ghost use Rattle.capture.specs.Body.{IsBody};
 ghost use Rattle.capture.specs.Framing.{request_framing};
 ghost use Rattle.capture.specs.Message.{IsRequestHeadText, IsWholeRequest};
@@ -7,7 +7,7 @@ ghost use Rattle.capture.specs.Payload.{IsPayload};
 ghost use Rattle.capture.specs.declared.framing.Framing.{Framing as FramingForm};
 ghost use Rattle.httparse.specs.Grammar.{RequestHead as RequestForm};
 ghost use Rattle.http_head.specs.Heads.{IsHeadFault};
-ghost use Rattle.http_wire.specs.WholeRequests.{IsRequestText};
+ghost use Rattle.whole_request.specs.WholeRequests.{IsRequestText};
 
 use capture::{Bytes, Framing};
 use http_head::{RequestMessage, WireFault, find_head_end, read_request_head};

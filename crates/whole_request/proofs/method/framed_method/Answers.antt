@@ -1,7 +1,7 @@
 use Rattle.std.proofs.Common.{Err, ap, arith}
-use Rattle.http_wire.proofs.WholeLaws.{untold, bodiless}
-use Rattle.http_wire.proofs.MethodLaws.{method_of, same_err}
-use Rattle.http_wire.proofs.request.method.framed_method.Goals as goal
+use Rattle.whole_request.proofs.WholeLaws.{untold, bodiless}
+use Rattle.whole_request.proofs.MethodLaws.{method_of, same_err}
+use Rattle.whole_request.proofs.method.framed_method.Goals as goal
 
 pub returns-in-Err-request_framing_of-clause-malformed :
     goal.returns-in-Err-request_framing_of-clause-malformed

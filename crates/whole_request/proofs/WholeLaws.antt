@@ -21,8 +21,8 @@ use Rattle.http_head.specs.declared.head.RequestMessage.{RequestMessage}
 use Rattle.http_head.specs.declared.head.WireFault.{WireFault}
 use Rattle.http_head.specs.declared.head.WireFault.TheVariants.{BodyTooLong}
 use Rattle.message_body.specs.Framings.{framing_answer, told_by_request}
-use Rattle.http_wire.specs.WholeRequests.{IsRequestText}
-use Rattle.http_wire.proofs.FramingLaws.{ok_was_told}
+use Rattle.whole_request.specs.WholeRequests.{IsRequestText}
+use Rattle.message_body.proofs.ToldFramings.{ok_was_told}
 
 -- a head that is read alone is read the same with a rest behind it
 pub begins_with_rest : (front : List ℕ) (h : grammar.RequestHead) (rest : List ℕ) → IsRequestHeadText front h
