@@ -9,5 +9,4 @@ pub mod Strings
 pub mod Told
 pub mod ToldBytes
 pub mod ToldLaws
-pub mod Trimming
 pub mod Whole

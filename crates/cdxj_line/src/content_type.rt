@@ -1,13 +1,12 @@
 //! The media type of a response, as lines and the index have it.
-ghost use Rattle.std.specs.Prelude.{◌≡◌, ◌≤◌, codes, length, reverse, IfOk, option_copied};
+ghost use Rattle.std.specs.Prelude.{◌≡◌, codes, IfOk, option_copied};
 ghost use Rattle.std.specs.Char.{is_ascii_graphic};
-ghost use Rattle.std.specs.List.{list_all, prefix_len};
-ghost use Rattle.httparse.specs.Grammar.{is_ows, trim_ows};
+ghost use Rattle.std.specs.List.{list_all};
 ghost use Rattle.cdxj_line.specs.MediaType as spec;
 ghost use Rattle.cdxj_line.specs.MediaType.{type_text, type_or_unknown};
 
 use crate::cut::front_len;
-use capture::{Memory, Text};
+use capture::{Memory, Text, trim_ows};
 use std::alloc::Global;
 
 /// What a line of a revisit has in place of a media type.
@@ -26,11 +25,12 @@ pub fn media_type(alloc: Global, content_type: Option<&[u8]>) -> Result<Text, Me
     }
 }
 
+/// The media type of a response whose Content-Type has this value: up to its first `;`, in lower case; `unk` where that isn't told.
 fn type_of(alloc: Global, value: &[u8]) -> Result<Text, Memory>
     ensures { IfOk result (λ mime. mime ≡ type_or_unknown (type_text value.now)) }
 {
     let (front, _) = value.split_at(front_len(value, b';'));
-    let mut text = Vec::from_slice(alloc, trim(front))?;
+    let mut text = Vec::from_slice(alloc, trim_ows(front))?;
     text.as_mut_slice().make_ascii_lowercase();
     if !is_told(text.as_slice()) {
         return unknown(alloc);
@@ -41,6 +41,7 @@ fn type_of(alloc: Global, value: &[u8]) -> Result<Text, Memory>
     }
 }
 
+/// `unk`, which stands where no media type is told.
 fn unknown(alloc: Global) -> Result<Text, Memory>
     ensures { IfOk result (λ mime. mime ≡ codes "unk") }
 {
@@ -59,36 +60,4 @@ fn is_graphic(text: &[u8]) -> bool
     ensures { result ≡ list_all is_ascii_graphic text.now }
 {
     text.iter().all(|b| b.is_ascii_graphic())
-}
-
-/// The bytes without the blanks at both ends.
-fn trim(text: &[u8]) -> &[u8]
-    ensures { result.now ≡ trim_ows text.now }
-{
-    let (_, rest) = text.split_at(blanks(text));
-    let (kept, _) = rest.split_at(rest.len() - final_blanks(rest));
-    kept
-}
-
-/// How many blanks stand at the front.
-fn blanks(text: &[u8]) -> usize
-    ensures value { result ≡ prefix_len is_ows text.now }
-    ensures within { result ≤ length text.now }
-{
-    text.iter().take_while(|&&b| is_blank(b)).count()
-}
-
-/// How many blanks stand at the end.
-fn final_blanks(text: &[u8]) -> usize
-    ensures value { result ≡ prefix_len is_ows (reverse text.now) }
-    ensures within { result ≤ length text.now }
-{
-    text.iter().rev().take_while(|&&b| is_blank(b)).count()
-}
-
-/// A space or a tab.
-fn is_blank(b: u8) -> bool
-    ensures { result ≡ is_ows b }
-{
-    b == b' ' || b == b'\t'
 }
