@@ -9,5 +9,4 @@ mod OutcomeLaws
 mod RecordLaws
 pub mod StorableLaws
 mod TableLaws
-mod TrimLaws
 mod ValueLaws

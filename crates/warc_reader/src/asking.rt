@@ -82,7 +82,7 @@ fn ask_of(alloc: Global, message: RequestMessage, text: &[u8]) -> Result<Ask, Me
     let RequestHead { method, .. } = head;
     Ok(Ask {
         method,
-        text: Bytes::of(Vec::from_slice(alloc, text)?),
+        text: Bytes::from_slice(alloc, text)?,
     })
 }
 

@@ -91,6 +91,7 @@ fn digits_behind_point(fraction: &[u8]) -> Option<&[u8]>
     }
 }
 
+/// Whether each byte is a digit, as it is in an empty text.
 fn are_digits(text: &[u8]) -> bool
     ensures { result ≡ list_all is_ascii_digit text.now }
 {

@@ -1,12 +1,12 @@
 //! The fields of a record that an import reads.
-ghost use Rattle.std.specs.Prelude.{◌≡◌, ◌≤◌, ◌==◌, not, map, length, option_copied, reverse};
+ghost use Rattle.std.specs.Prelude.{◌≡◌, ◌≤◌, ◌==◌, not, map, length, option_copied};
 ghost use Rattle.std.specs.List.{prefix_len};
 ghost use Rattle.httparse.specs.Ascii.{semicolon};
-ghost use Rattle.httparse.specs.Grammar.{is_ows, trim_ows};
 ghost use Rattle.http_head.specs.Heads.{named_value};
 ghost use Rattle.warc_reader.specs.Fields as spec;
 
 use crate::kind::Kind;
+use capture::trim_ows;
 use http_head::{Field, first_value};
 
 /// The types of records, in exact case (ISO 28500:2017, section 6).
@@ -29,6 +29,7 @@ pub fn kind_of(fields: &[Field]) -> Kind
     }
 }
 
+/// The kind of a record by the value of its WARC-Type, in exact case.
 fn kind_named(value: &[u8]) -> Kind
     ensures { result ≡ spec.kind_named value.now }
 {
@@ -54,11 +55,12 @@ pub fn has_http_type(fields: &[Field]) -> bool
     }
 }
 
+/// Whether the value up to its first `;`, without the white space around it, is `application/http`.
 fn is_http_type(value: &[u8]) -> bool
     ensures { result ≡ spec.is_http_type value.now }
 {
     let (media_type, _) = value.split_at(media_type_len(value));
-    trim(media_type) == HTTP
+    trim_ows(media_type) == HTTP
 }
 
 /// The length up to the first `;`.
@@ -67,38 +69,6 @@ fn media_type_len(text: &[u8]) -> usize
     ensures within { result ≤ length text.now }
 {
     text.iter().take_while(|&&b| b != b';').count()
-}
-
-/// The bytes without the blanks at both ends.
-fn trim(text: &[u8]) -> &[u8]
-    ensures { result.now ≡ trim_ows text.now }
-{
-    let (_, rest) = text.split_at(blanks(text));
-    let (kept, _) = rest.split_at(rest.len() - final_blanks(rest));
-    kept
-}
-
-/// How many blanks stand at the front.
-fn blanks(text: &[u8]) -> usize
-    ensures value { result ≡ prefix_len is_ows text.now }
-    ensures within { result ≤ length text.now }
-{
-    text.iter().take_while(|&&b| is_blank(b)).count()
-}
-
-/// How many blanks stand at the end.
-fn final_blanks(text: &[u8]) -> usize
-    ensures value { result ≡ prefix_len is_ows (reverse text.now) }
-    ensures within { result ≤ length text.now }
-{
-    text.iter().rev().take_while(|&&b| is_blank(b)).count()
-}
-
-/// A space or a tab.
-fn is_blank(b: u8) -> bool
-    ensures { result ≡ is_ows b }
-{
-    b == b' ' || b == b'\t'
 }
 
 /// The target that the record names (ISO 28500:2017, 5.12), without the one pair of angle brackets around it.
@@ -111,6 +81,7 @@ pub fn target_of(fields: &[Field]) -> Option<&[u8]>
     }
 }
 
+/// The text without the one pair of angle brackets around it, where one is there.
 fn without_brackets(text: &[u8]) -> &[u8]
     ensures { result.now ≡ spec.without_brackets text.now }
 {

@@ -60,6 +60,7 @@ impl Requests {
     }
 }
 
+/// Whether the record holds a request.
 fn is_request(kind: Kind) -> bool
     ensures { result ≡ is_request_kind kind }
 {
