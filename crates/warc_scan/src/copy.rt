@@ -34,8 +34,8 @@ pub fn copy_parts(alloc: Global, found: &Found<'_>, answer: &Answer<'_>) -> Resu
     ensures { IfOk result (AreCopies found.now answer.now) }
 {
     let uri = copy_target(alloc, found.opening.uri)?;
-    let request = copy_bytes(alloc, found.request)?;
-    let head = copy_bytes(alloc, answer.head)?;
+    let request = Bytes::from_slice(alloc, found.request)?;
+    let head = Bytes::from_slice(alloc, answer.head)?;
     let same = copy_revisited(alloc, &found.opening.same)?;
     let kept = copy_kept(alloc, answer)?;
     Ok(Copies {
@@ -47,21 +47,14 @@ pub fn copy_parts(alloc: Global, found: &Found<'_>, answer: &Answer<'_>) -> Resu
     })
 }
 
-/// A copy of bytes.
-fn copy_bytes(alloc: Global, bytes: &[u8]) -> Result<Bytes, Memory>
-    ensures { IfOk result (λ copy. copy ≡ bytes.now) }
-{
-    Ok(Bytes::of(Vec::from_slice(alloc, bytes)?))
-}
-
 /// What is kept of a response. Which capture a revisit is of isn't known yet.
 fn copy_kept(alloc: Global, answer: &Answer<'_>) -> Result<Kept, Memory>
     ensures { IfOk result (λ kept. kept ≡ kept_by answer.now.form answer.now.wire.now) }
 {
     match answer.form {
-        Form::Whole => Ok(Kept::Wire(copy_bytes(alloc, answer.wire)?)),
+        Form::Whole => Ok(Kept::Wire(Bytes::from_slice(alloc, answer.wire)?)),
         Form::Revisit => Ok(Kept::Same(u32::MAX)),
-        Form::Cut => Ok(Kept::Cut(copy_bytes(alloc, answer.wire)?)),
+        Form::Cut => Ok(Kept::Cut(Bytes::from_slice(alloc, answer.wire)?)),
     }
 }
 
