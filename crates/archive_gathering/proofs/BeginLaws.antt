@@ -11,7 +11,7 @@ use Rattle.capture.specs.declared.book.Book.{Book}
 use Rattle.capture.specs.declared.book.Volume.{Volume}
 use Rattle.capture.specs.declared.captured.Stored.{Stored}
 use Rattle.cdxj_index.specs.Facts.{Facts}
-use Rattle.warc_scan.specs.Infos.{IsInfo}
+use Rattle.record_opening.specs.Infos.{IsInfo}
 use Rattle.warc_text.specs.Books.{AreVolumeTexts}
 use Rattle.warc_text.specs.Ids.{IsUuid}
 use Rattle.archive_shelf.proofs.EntryLaws.{entries_stay_all}

@@ -12,7 +12,7 @@ use Rattle.time_text.specs.Texts.{InRange}
 use Rattle.volume_scan.specs.Books.{AreFronts, BeginsWith}
 use Rattle.warc_journal.specs.Texts.{with_more}
 use Rattle.warc_scan.specs.Groups.{IsGroup}
-use Rattle.warc_scan.specs.Infos.{IsInfo}
+use Rattle.record_opening.specs.Infos.{IsInfo}
 use Rattle.warc_scan.specs.declared.group.Group.{Group}
 use Rattle.warc_text.specs.Books.{AreVolumeTexts, IsGroupText}
 use Rattle.warc_text.specs.Ids.{IsUuid}

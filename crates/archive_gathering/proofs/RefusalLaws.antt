@@ -9,7 +9,7 @@ use Rattle.capture.specs.declared.book.Book.{Book}
 use Rattle.capture.specs.declared.book.Volume.{Volume}
 use Rattle.warc_journal.specs.Texts.{with_more}
 use Rattle.warc_scan.specs.Groups.{IsGroup}
-use Rattle.warc_scan.specs.Infos.{IsInfo}
+use Rattle.record_opening.specs.Infos.{IsInfo}
 use Rattle.warc_scan.specs.declared.group.Group.{Group}
 use Rattle.warc_text.specs.Books.{IsGroupText, joined}
 use Rattle.warc_text.specs.Sound.{IsSound}

@@ -11,7 +11,7 @@ use Rattle.volume_scan.specs.declared.found.Found.{Found}
 use Rattle.volume_scan.specs.declared.found.Found.TheVariants.{Info, Group, End}
 use Rattle.warc_journal.specs.Texts.{with_more}
 use Rattle.warc_journal.specs.declared.place.Place.{Place}
-use Rattle.warc_scan.specs.Infos.{IsInfo}
+use Rattle.record_opening.specs.Infos.{IsInfo}
 use Rattle.warc_scan.specs.declared.group.Group.{Group as GroupFound}
 use Rattle.warc_text.specs.Ids.{IsUuid}
 use Rattle.warc_text.specs.Sound.{IsSound}

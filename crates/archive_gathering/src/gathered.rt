@@ -9,7 +9,7 @@ ghost use Rattle.time_text.specs.Texts.{InRange};
 ghost use Rattle.warc_journal.specs.Texts.{with_more};
 ghost use Rattle.volume_scan.specs.Scannings.{IsHeaded};
 ghost use Rattle.warc_scan.specs.Headed.{HasItsParts};
-ghost use Rattle.warc_scan.specs.Infos.{IsInfo};
+ghost use Rattle.record_opening.specs.Infos.{IsInfo};
 ghost use Rattle.warc_text.specs.Ids.{IsUuid};
 ghost use Rattle.archive_shelf.specs.Storing.{empty_book, with_capture};
 ghost use Rattle.archive_gathering.specs.Gathering.{FitsFound, FitsGroup, Gathers, HasAdded, HasBegun, HasTaken, HasVolumeMore, IsGathered, IsIn, IsRefused, IsSteady, MayStand};

@@ -20,12 +20,12 @@ use Rattle.warc_text.proofs.InfoLaws.{info_front}
 use Rattle.warc_scan.specs.Answers.{BeginsWithGroup}
 use Rattle.warc_scan.specs.Asking.{second_opening}
 use Rattle.warc_scan.specs.Groups.{reference_in}
-use Rattle.warc_scan.specs.Openings.{opening_text}
+use Rattle.record_opening.specs.Openings.{opening_text}
 use Rattle.warc_scan.specs.declared.group.Group.{Group}
-use Rattle.warc_scan.proofs.BlockTold.{block_told}
+use Rattle.record_opening.proofs.BlockTold.{block_told}
 use Rattle.warc_scan.proofs.FindLaws.{Parts, first_text, parts_of}
-use Rattle.warc_scan.proofs.OpeningTold.{opening_told}
-use Rattle.warc_scan.proofs.Refusals.{same_behind}
+use Rattle.record_opening.proofs.OpeningTold.{opening_told}
+use Rattle.record_opening.proofs.Refusals.{same_behind}
 use Rattle.archive_volumes.specs.Facts.{facts_from}
 use Rattle.archive_opening.proofs.CountLaws.{rest_is_uncommitted}
 use Rattle.archive_opening.specs.Counting.{BytesHaveOneCount, Counted, GroupStands, HasCountOf, HasCountsOf, HoldsJust, InfoEndsAt, IsSoundRest, StandsUpTo}

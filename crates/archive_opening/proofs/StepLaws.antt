@@ -14,7 +14,7 @@ use Rattle.volume_scan.specs.declared.scanning.Scanning.{Scanning}
 use Rattle.warc_journal.specs.Journals.{Rests}
 use Rattle.warc_journal.specs.declared.place.Place.{Place}
 use Rattle.warc_scan.specs.Groups.{IsGroup}
-use Rattle.warc_scan.specs.Infos.{IsInfo}
+use Rattle.record_opening.specs.Infos.{IsInfo}
 use Rattle.warc_scan.specs.declared.group.Group.{Group as GroupFound}
 use Rattle.archive_shelf.specs.declared.fault.ReopenFault.{ReopenFault}
 use Rattle.archive_shelf.specs.declared.fault.ReopenFault.TheVariants as faults

@@ -24,7 +24,7 @@ use Rattle.warc_journal.specs.Texts.{Hold, with_more}
 use Rattle.warc_journal.specs.declared.extent.Extent.{Extent}
 use Rattle.warc_journal.specs.declared.place.Place.{Place}
 use Rattle.warc_scan.specs.Groups.{IsGroup}
-use Rattle.warc_scan.specs.Infos.{IsInfo}
+use Rattle.record_opening.specs.Infos.{IsInfo}
 use Rattle.warc_scan.specs.declared.group.Group.{Group as GroupFound}
 use Rattle.archive_shelf.proofs.ShortTexts.{short_info}
 use Rattle.archive_shelf.specs.declared.fault.ReopenFault.{ReopenFault}

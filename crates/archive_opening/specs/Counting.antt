@@ -11,7 +11,8 @@ use Rattle.disk_model.specs.declared.kind.Kind.TheVariants.{Warc}
 use Rattle.volume_scan.specs.declared.position.Position.{Position}
 use Rattle.volume_scan.specs.declared.position.Stage.{Stage}
 use Rattle.volume_scan.specs.declared.position.Stage.TheVariants.{Opened, Skipped}
-use Rattle.warc_scan.specs.Answers.{BeginsWithGroup, BeginsWithInfo}
+use Rattle.warc_scan.specs.Answers.{BeginsWithGroup}
+use Rattle.record_opening.specs.InfoAnswers.{BeginsWithInfo}
 use Rattle.warc_scan.specs.declared.group.Group.{Group}
 use Rattle.warc_text.specs.StandsFor.{commit_byte}
 use Rattle.archive_volumes.specs.Facts.{facts_of}

@@ -9,7 +9,7 @@ use Rattle.volume_scan.specs.declared.position.Position.{Position}
 use Rattle.warc_journal.specs.Extents.{texts_in, warc_files}
 use Rattle.warc_journal.specs.Texts.{Hold, with_more}
 use Rattle.warc_scan.specs.Groups.{IsGroup}
-use Rattle.warc_scan.specs.Infos.{IsInfo}
+use Rattle.record_opening.specs.Infos.{IsInfo}
 use Rattle.warc_scan.specs.declared.group.Group.{Group}
 use Rattle.warc_text.specs.Books.{AreVolumeTexts}
 use Rattle.warc_text.specs.Sound.{IsSound}

@@ -11,7 +11,9 @@ use Rattle.warc_text.specs.StandsFor.{commit_byte}
 use Rattle.warc_text.proofs.GroupLaws.{groups_are_committed}
 use Rattle.warc_text.proofs.InfoLaws.{begins-append, begins-info, committed, info_front}
 use Rattle.warc_text.proofs.PrefixLaws.{groups_are_prefix_free}
-use Rattle.warc_scan.specs.Answers.{BeginsWithGroup, BeginsWithInfo, HasNoGroup, HasNoInfo, IsEnd, IsUnfinished}
+use Rattle.warc_scan.specs.Answers.{BeginsWithGroup, HasNoGroup}
+use Rattle.record_opening.specs.InfoAnswers.{BeginsWithInfo, HasNoInfo}
+use Rattle.record_opening.specs.Rests.{IsEnd, IsUnfinished}
 use Rattle.warc_scan.specs.Groups.{IsGroup, reference_in}
 use Rattle.warc_scan.specs.declared.group.Group.{Group}
 use Rattle.volume_scan.proofs.FoundTexts.{found_writable}

@@ -8,9 +8,10 @@ ghost use Rattle.archive_pieces.specs.PieceParts.{BeginsWithFront, HasNoFront, H
 
 use archive_volumes::Held;
 use capture::Memory;
+use record_opening::{InfoStep, next_info};
 use std::alloc::Global;
 use uuid::Uuid;
-use warc_scan::{Group, GroupStep, InfoStep, next_group, next_info};
+use warc_scan::{Group, GroupStep, next_group};
 
 /// The warcinfo with which a piece begins.
 #[derive(Clone, Copy)]

@@ -8,7 +8,8 @@ use Rattle.capture.specs.Captures.{taken_back}
 use Rattle.capture.specs.Tails.{IsCommitted, IsTail}
 use Rattle.capture.specs.declared.book.Book.{Book}
 use Rattle.warc_scan.specs.Groups.{IsGroup, reference_in}
-use Rattle.warc_scan.specs.Answers.{BeginsWithGroup, HasNoGroup, IsUnfinished}
+use Rattle.warc_scan.specs.Answers.{BeginsWithGroup, HasNoGroup}
+use Rattle.record_opening.specs.Rests.{IsUnfinished}
 use Rattle.warc_scan.specs.declared.group.Group.{Group}
 use Rattle.warc_scan.specs.declared.outline.Outline.{Outline}
 use Rattle.warc_text.proofs.GroupLaws.{groups_are_committed}

@@ -17,11 +17,12 @@ use crate::part::{ReadFault, read_part};
 use archive_volumes::{Spot, Volumes};
 use capture::{Bytes, Memory};
 use disk_model::Disk;
+use record_opening::NoRecord;
 use shown::Shown;
 use std::alloc::Global;
 use uuid::Uuid;
 use warc_journal::{DiskFault, Place};
-use warc_scan::{NoRecord, Outline, next_outline};
+use warc_scan::{Outline, next_outline};
 
 /// The group of a capture, as it was read.
 #[derive(Drop)]

@@ -3,9 +3,10 @@ use crate::records::{NAMESPACE, Scanned, need_shown, put_numbers, put_same, scan
 use capture::{Memory, put_all, put_number};
 use case_texts::{always, put_next, put_next_number, told};
 use digest32::base32_of;
+use record_opening::{FirstOpening, NoRecord, Refers};
 use std::alloc::Global;
 use uuid::Uuid;
-use warc_scan::{FirstOpening, NoRecord, Outline, Refers, next_opening, next_outline};
+use warc_scan::{Outline, next_opening, next_outline};
 
 /// What stands where a group may begin, without its bodies.
 pub fn outline_step(alloc: Global, text: &[u8]) -> Result<Option<Vec<u8>>, Memory> {

@@ -6,10 +6,11 @@ use case_messages::received;
 use case_texts::{always, number, put_next, put_next_number, told};
 use digest32::{base32_of, payload_digest};
 use http_wire::{Received, read_request};
+use record_opening::{InfoStep, next_info};
 use std::alloc::Global;
 use time_text::LATEST;
 use uuid::Uuid;
-use warc_scan::{Group, GroupStep, InfoStep, Revisited, next_group, next_info};
+use warc_scan::{Group, GroupStep, Revisited, next_group};
 use warc_text::{SameOf, group_text, info_text};
 
 /// The namespace of the records.

@@ -7,7 +7,7 @@ use Rattle.std.specs.Str.{bytes_eq}
 use Rattle.std.specs.Str.Parse.{digits_value}
 use Rattle.uuid.proofs.TextLemmas.{by_index_length}
 use Rattle.uuid.specs.Text.{hyphenated_text, lower, parsed}
-use Rattle.warc_scan.proofs.UuidParsing.{parsed_is_uuid}
+use Rattle.record_opening.proofs.UuidParsing.{parsed_is_uuid}
 use Rattle.warc_text.specs.Ids.{IsUuid}
 use Rattle.command.specs.Words.{command_of, command_of_four, command_of_one, command_of_three, command_of_two, number_of}
 

@@ -5,7 +5,9 @@ use Rattle.std.proofs.lemmas.Bool.{ltb-false, ltb-true}
 use Rattle.std.proofs.lemmas.List.{append_assoc, drop_all, drop-take, get_or_append_left, length-drop, take-append-drop}
 use Rattle.capture.specs.Captures.{taken_back}
 use Rattle.capture.specs.Tails.{IsCommitted, IsRest, IsTail}
-use Rattle.warc_scan.specs.Answers.{BeginsWithGroup, BeginsWithInfo, GroupsReach, HasNoGroup, HasNoInfo, IsEnd, IsUnfinished, MayFollow}
+use Rattle.warc_scan.specs.Answers.{BeginsWithGroup, GroupsReach, HasNoGroup}
+use Rattle.record_opening.specs.InfoAnswers.{BeginsWithInfo, HasNoInfo}
+use Rattle.record_opening.specs.Rests.{IsEnd, IsUnfinished, MayFollow}
 use Rattle.warc_scan.specs.Groups.{reference_in}
 use Rattle.warc_scan.specs.Outlines.{BeginsWithOutline}
 use Rattle.warc_scan.specs.declared.group.Group.{Group}

@@ -7,12 +7,12 @@ use Rattle.warc_text.specs.declared.id.IdKind.TheVariants as ids
 use Rattle.warc_text.proofs.InfoLaws.{info_front}
 use Rattle.warc_scan.specs.Answers.{BeginsWithGroup}
 use Rattle.warc_scan.specs.Asking.{second_opening}
-use Rattle.warc_scan.specs.Openings.{opening_text}
+use Rattle.record_opening.specs.Openings.{opening_text}
 use Rattle.warc_scan.specs.declared.group.Group.{Group}
-use Rattle.warc_scan.proofs.BlockTold.{block_told}
+use Rattle.record_opening.proofs.BlockTold.{block_told}
 use Rattle.warc_scan.proofs.FindLaws.{Parts, first_text, parts_of}
-use Rattle.warc_scan.proofs.OpeningTold.{opening_told}
-use Rattle.warc_scan.proofs.Refusals.{same_behind}
+use Rattle.record_opening.proofs.OpeningTold.{opening_told}
+use Rattle.record_opening.proofs.Refusals.{same_behind}
 use Rattle.fixity.specs.Verdicts.{GroupStands, HasOtherRest, InfoEndsAt, IsSoundRest, LacksGroup, LacksInfo, StandsUpTo, Volume, VolumesHaveOneVerdict}
 use Rattle.fixity.specs.declared.verdict.Verdict.TheVariants.{Sound, Damaged}
 

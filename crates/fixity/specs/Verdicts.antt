@@ -1,7 +1,8 @@
 -- What the bytes of a volume are to be, and the verdict on them.
 use Rattle.std.specs.Prelude.{◌≡◌, ◌⊎◌, ℕ, zero, suc, ◌+◌, ◌<◌, Bool, true, false, List, [], drop}
 use Rattle.capture.specs.Tails.{IsRest}
-use Rattle.warc_scan.specs.Answers.{BeginsWithGroup, BeginsWithInfo}
+use Rattle.warc_scan.specs.Answers.{BeginsWithGroup}
+use Rattle.record_opening.specs.InfoAnswers.{BeginsWithInfo}
 use Rattle.warc_scan.specs.declared.group.Group.{Group}
 use Rattle.warc_text.specs.StandsFor.{commit_byte}
 use Rattle.fixity.specs.declared.verdict.Verdict.{Verdict}

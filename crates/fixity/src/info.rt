@@ -10,9 +10,9 @@ use crate::due::Due;
 use crate::reading::read_bytes;
 use capture::Memory;
 use disk_model::Disk;
+use record_opening::{InfoStep, next_info};
 use std::alloc::Global;
 use uuid::Uuid;
-use warc_scan::{InfoStep, next_info};
 use warc_text::INFO_MOST;
 
 /// Where the warcinfo of the volume ends, if it stands there, in this namespace.

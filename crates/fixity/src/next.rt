@@ -3,9 +3,10 @@ ghost use Rattle.std.specs.Prelude.{◌≡◌, ◌≤◌, ℕ, List, IfOk, lengt
 ghost use Rattle.fixity.specs.steps.Nexts.{Fits, IsNextGroup};
 
 use capture::Memory;
+use record_opening::NoRecord;
 use std::alloc::Global;
 use uuid::Uuid;
-use warc_scan::{NoRecord, next_outline};
+use warc_scan::next_outline;
 
 /// What stands where a group is due.
 #[derive(Clone, Copy)]

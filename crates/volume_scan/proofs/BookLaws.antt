@@ -9,7 +9,7 @@ use Rattle.time_text.specs.Texts.{InRange}
 use Rattle.capture.specs.Tails.{IsCommitted, IsRest}
 use Rattle.capture.specs.declared.book.Book.{Book}
 use Rattle.capture.specs.declared.book.Volume.{Volume}
-use Rattle.warc_scan.specs.Answers.{BeginsWithInfo}
+use Rattle.record_opening.specs.InfoAnswers.{BeginsWithInfo}
 use Rattle.warc_text.specs.Books.{IsGroupText, IsVolumeText, joined}
 use Rattle.warc_text.specs.Growth.{SoundVolumesHaveOneText}
 use Rattle.warc_text.specs.Records.{info_text}

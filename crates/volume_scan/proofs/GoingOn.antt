@@ -14,7 +14,7 @@ use Rattle.capture.specs.declared.book.Volume.{Volume}
 use Rattle.capture.specs.declared.captured.Stored.{Stored}
 use Rattle.warc_journal.specs.Texts.{with_more}
 use Rattle.warc_scan.specs.Groups.{IsGroup, reference_in}
-use Rattle.warc_scan.specs.Infos.{IsInfo}
+use Rattle.record_opening.specs.Infos.{IsInfo}
 use Rattle.warc_scan.specs.declared.group.Group.{Group}
 use Rattle.warc_text.specs.Books.{IsGroupText, IsVolumeText, joined}
 use Rattle.warc_text.specs.Growth.{SoundVolumesHaveOneText}

@@ -3,7 +3,9 @@ use Rattle.std.proofs.Common.{◌≡◌, ◌<◌, ◌≤◌, ℕ, Bool, true, fa
 use Rattle.std.proofs.lemmas.Bool.{cases_eq, ltb-false, ltb-true}
 use Rattle.std.proofs.lemmas.List.{append_assoc, drop_all, get_or_append_left, length-drop, take-append-drop}
 use Rattle.capture.specs.Tails.{IsCommitted, IsTail}
-use Rattle.warc_scan.specs.Answers.{BeginsWithGroup, BeginsWithInfo, GroupsReach, HasNoGroup, HasNoInfo, InfosReach, IsCommittedRest, IsEnd, IsUnfinished, MayFollow}
+use Rattle.warc_scan.specs.Answers.{BeginsWithGroup, GroupsReach, HasNoGroup}
+use Rattle.record_opening.specs.InfoAnswers.{BeginsWithInfo, HasNoInfo, InfosReach}
+use Rattle.record_opening.specs.Rests.{IsCommittedRest, IsEnd, IsUnfinished, MayFollow}
 use Rattle.warc_scan.specs.declared.group.Group.{Group}
 use Rattle.warc_text.specs.StandsFor.{commit_byte}
 use Rattle.volume_scan.specs.steps.Next.{HasInfoText}

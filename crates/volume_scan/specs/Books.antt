@@ -6,7 +6,7 @@ use Rattle.capture.specs.declared.book.Volume.{Volume}
 use Rattle.warc_journal.specs.Extents.{texts_in}
 use Rattle.warc_journal.specs.Texts.{Hold, with_more}
 use Rattle.warc_scan.specs.Groups.{IsGroup}
-use Rattle.warc_scan.specs.Infos.{IsInfo}
+use Rattle.record_opening.specs.Infos.{IsInfo}
 use Rattle.warc_scan.specs.declared.group.Group.{Group as GroupFound}
 use Rattle.warc_text.specs.Books.{IsGroupText, IsVolumeText, joined}
 use Rattle.warc_text.specs.Sound.{IsSound}

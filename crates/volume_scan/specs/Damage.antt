@@ -1,7 +1,8 @@
 -- Where the files go on with nothing that an archive may hold.
 use Rattle.std.specs.Prelude.{◌≡◌, ◌⊎◌, ◌<◌, ℕ, ◌+◌, List, length}
 use Rattle.capture.specs.Tails.{IsCommitted, IsRest, IsTail}
-use Rattle.warc_scan.specs.Answers.{BeginsWithGroup, BeginsWithInfo}
+use Rattle.warc_scan.specs.Answers.{BeginsWithGroup}
+use Rattle.record_opening.specs.InfoAnswers.{BeginsWithInfo}
 use Rattle.warc_scan.specs.declared.group.Group.{Group}
 use Rattle.warc_text.specs.Records.{info_most}
 use Rattle.warc_text.specs.StandsFor.{commit_byte}

@@ -11,7 +11,7 @@ use Rattle.warc_journal.specs.declared.extent.Further.TheVariants.{Absent}
 use Rattle.warc_journal.specs.declared.place.Place.{Place}
 use Rattle.warc_scan.specs.Groups.{IsGroup}
 use Rattle.warc_scan.specs.Headed.{HasItsParts}
-use Rattle.warc_scan.specs.Infos.{IsInfo}
+use Rattle.record_opening.specs.Infos.{IsInfo}
 use Rattle.warc_scan.specs.declared.group.Group.{Group as GroupFound}
 use Rattle.volume_scan.specs.Damage.{IsDamagedAt}
 use Rattle.volume_scan.specs.Unread.{IsBehind, IsFurthest, file_at, unread}

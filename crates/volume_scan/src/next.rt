@@ -2,9 +2,10 @@
 ghost use Rattle.std.specs.Prelude.{◌≡◌, ◌≤◌, ℕ, List, length, min, take, IfErr, IfOk};
 ghost use Rattle.volume_scan.specs.steps.Next.{Asks, FitsGroup, FitsInfo, IsNextGroup, IsNextInfo};
 
+use record_opening::{InfoStep, NoRecord, next_info};
 use std::alloc::Global;
 use uuid::Uuid;
-use warc_scan::{HeadedGroup, InfoStep, NoRecord, next_headed_group, next_info};
+use warc_scan::{HeadedGroup, next_headed_group};
 
 /// What stands behind the text that was read of a volume.
 #[derive(Drop)]

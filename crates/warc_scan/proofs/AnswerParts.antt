@@ -19,17 +19,17 @@ use Rattle.capture.specs.declared.framing.FramingFault.{FramingFault}
 use Rattle.http_head.specs.declared.head.WireFault.{WireFault}
 use Rattle.message_body.specs.Framings.{framing_answer, told_by_response}
 use Rattle.warc_text.specs.References.{Reference}
+use Rattle.record_opening.specs.Openings.{IsOpening, IsRevisited, opening_of, reference_of}
+use Rattle.record_opening.specs.declared.opening.Opening.{Opening}
+use Rattle.record_opening.specs.declared.opening_parts.Refers.{Refers}
 use Rattle.warc_scan.specs.steps.Responses.{AreParts, IsAnswerOf, IsRead, IsSomeBody, IsToldBy, TellsOfBody, kept_by}
 use Rattle.warc_scan.specs.steps.Digests.{HasDigest, HasLength}
 use Rattle.warc_scan.specs.Groups.{HasPayloadLen, IsResponse, unknown_number}
-use Rattle.warc_scan.specs.Openings.{IsOpening, IsRevisited, opening_of, reference_of}
 use Rattle.warc_scan.specs.declared.answer.Answer.{Answer}
 use Rattle.warc_scan.specs.declared.answer.Form.{Form}
 use Rattle.warc_scan.specs.declared.answer.Form.TheVariants as forms
 use Rattle.warc_scan.specs.declared.answer.Parts.{Parts}
 use Rattle.warc_scan.specs.declared.answer.Told.{Told}
-use Rattle.warc_scan.specs.declared.opening.Opening.{Opening}
-use Rattle.warc_scan.specs.declared.opening_parts.Refers.{Refers}
 use Rattle.warc_scan.proofs.AnswerHeads.{begins_with_rest, final_head, no_such_body, no_such_cut, ok_was_told, one_framing, one_split, told_by_parts}
 
 -- what the parts of a head tell, in a response to this method

@@ -8,29 +8,27 @@ use Rattle.warc_text.specs.Ids.{id_of}
 use Rattle.warc_text.specs.Lines.{ended, length_lines, record_end}
 use Rattle.warc_text.specs.Records.{request_opening}
 use Rattle.warc_text.specs.declared.id.IdKind.TheVariants as ids
+use Rattle.record_opening.specs.BlockParts.{AsksForBlock, RefusesBlock}
+use Rattle.record_opening.specs.Openings.{IsOpening, Opening, opening_of, opening_text}
+use Rattle.record_opening.specs.Stops.{Differs, Leaves, NoneStands, Refuses}
+use Rattle.record_opening.specs.declared.stop.Stop.{Stop}
+use Rattle.record_opening.specs.declared.stop.Stop.TheVariants.{Open, Until, Wrong, Memory}
+use Rattle.record_opening.proofs.BlockTold.{block_told}
+use Rattle.record_opening.proofs.OpeningTold.{opening_told}
+use Rattle.record_opening.proofs.Refusals.{refuses_behind, refuses_more}
+use Rattle.record_opening.proofs.FirstLaws.{behind_both, length_before, opening_told_by}
 use Rattle.warc_scan.specs.steps.Founds.{AsksByStop, IsFoundIn}
 use Rattle.warc_scan.specs.Asking.{second_opening}
-use Rattle.warc_scan.specs.steps.BlockParts.{AsksForBlock, RefusesBlock}
 use Rattle.warc_scan.specs.Groups.{IsGroup, reference_in}
-use Rattle.warc_scan.specs.Openings.{IsOpening, Opening, opening_of, opening_text}
-use Rattle.warc_scan.specs.steps.Stops.{Differs, Leaves, NoneStands, Refuses}
 use Rattle.warc_scan.specs.declared.group.Group.{Group}
 use Rattle.warc_scan.specs.declared.find.Found.{Found}
-use Rattle.warc_scan.specs.declared.stop.Stop.{Stop}
-use Rattle.warc_scan.specs.declared.stop.Stop.TheVariants.{Open, Until, Wrong, Memory}
-use Rattle.warc_scan.proofs.BlockTold.{block_told}
 use Rattle.warc_scan.proofs.GroupParts.{group_is, opening_in, opening_is_right}
-use Rattle.warc_scan.proofs.OpeningTold.{opening_told}
-use Rattle.warc_scan.proofs.Refusals.{refuses_behind, refuses_more}
 
 -- the front that is left before a rest
 pub front_taken : (bytes front rest : List ℕ) → bytes ≡ front ++ rest → take (length bytes - length rest) bytes ≡ front
 front_taken bytes front rest e =
     ap (take (length bytes - length rest)) e
     ∙ take_at front rest (length bytes - length rest) (omega (arith, ap length e, length-append front rest))
-
-pub length_before : (bytes front rest : List ℕ) → bytes ≡ front ++ rest → length bytes - length rest ≡ length front
-length_before bytes front rest e = omega (arith, ap length e, length-append front rest)
 
 pub rest_fits : (bytes front rest : List ℕ) → bytes ≡ front ++ rest → length rest ≤ length bytes
 rest_fits bytes front rest e = omega (arith, ap length e, length-append front rest)
@@ -256,10 +254,6 @@ module _ (namespace : List ℕ) (number : ℕ) where
   request_asks bytes Wrong o block is asks = tt
   request_asks bytes Memory o block is asks = tt
 
--- pieces that stand one behind the other
-pub behind_both : (bytes a r b rest : List ℕ) → bytes ≡ a ++ r → r ≡ b ++ rest → bytes ≡ (a ++ b) ++ rest
-behind_both bytes a r b rest e f = e ∙ ap (λ t. a ++ t) f ∙ sym (append_assoc a b rest)
-
 -- ---- what was found
 
 pub found_in : (namespace : List ℕ) (number : ℕ) (bytes : List ℕ) (found : Found) (answer_rest request_rest : List ℕ) → IsOpening (opening_of found.opening)
@@ -290,18 +284,11 @@ found_in namespace number bytes found answer_rest request_rest is target first w
 -- ---- as the reader has it
 
 module _ (namespace : List ℕ) (number : ℕ) (bytes id request_id : List ℕ) (id_is : id ≡ id_of namespace ids.Response number) where
-  pub none_told : (stop : Stop) → NoneStands IsOpening (opening_text id) stop bytes
-      → NoneStands IsOpening (opening_text (id_of namespace ids.Response number)) stop bytes
-  none_told stop none = subst (λ i. NoneStands IsOpening (opening_text i) stop bytes) id_is none
-
-  pub opening_told_by : (o : Opening) (rest : List ℕ) → bytes ≡ opening_text id o ++ rest → bytes ≡ opening_text (id_of namespace ids.Response number) o ++ rest
-  opening_told_by o rest composed = subst (λ i. bytes ≡ opening_text i o ++ rest) id_is composed
-
   -- what is told of the block behind the opening
   pub first_front : (P : List ℕ → Type 0) (o : Opening) (rest : List ℕ) → bytes ≡ opening_text id o ++ rest → P (take (length bytes - length rest) bytes)
       → P (opening_text (id_of namespace ids.Response number) o)
   first_front P o rest composed told =
-      subst P (front_taken bytes (opening_text (id_of namespace ids.Response number) o) rest (opening_told_by o rest composed)) told
+      subst P (front_taken bytes (opening_text (id_of namespace ids.Response number) o) rest (opening_told_by namespace number bytes id id_is o rest composed)) told
 
   module _ (request_id_is : request_id ≡ id_of namespace ids.Request number) (o : Opening) where
     pub second_told : (P : List ℕ → Type 0) → P (request_opening request_id id o.date o.uri) → P (second_opening namespace number o)

@@ -14,8 +14,8 @@ use Rattle.warc_text.specs.Records.{answer_text, group_text, request_opening, re
 use Rattle.warc_text.specs.References.{Reference}
 use Rattle.warc_text.specs.declared.id.IdKind.TheVariants as ids
 use Rattle.warc_text.proofs.IdLaws.{sha1_length, sha1_small}
+use Rattle.record_opening.specs.Openings.{IsOpening, IsRevisited, Opening, opening_text}
 use Rattle.warc_scan.specs.Groups.{IsAnswer, IsGroup, reference_in}
-use Rattle.warc_scan.specs.Openings.{IsOpening, IsRevisited, Opening, opening_text}
 use Rattle.warc_scan.specs.declared.group.Group.{Group}
 
 -- what the opening says

@@ -15,18 +15,18 @@ use Rattle.warc_text.specs.Records.{answer_text, group_text}
 use Rattle.warc_text.specs.References.{Reference}
 use Rattle.warc_text.specs.declared.id.IdKind.TheVariants as ids
 use Rattle.warc_text.proofs.Fronts.{fronts}
-use Rattle.warc_scan.specs.steps.Responses.{IsAnswerOf}
+use Rattle.record_opening.specs.Openings.{Opening, opening_of, opening_text}
+use Rattle.record_opening.specs.Stops.{Refuses}
+use Rattle.record_opening.specs.declared.stop.Stop.{Stop}
+use Rattle.record_opening.specs.declared.stop.Stop.TheVariants.{Open, Until, Wrong, Memory}
+use Rattle.record_opening.proofs.BlockTold.{block_told}
+use Rattle.warc_scan.specs.steps.Responses.{IsAnswerOf, IsMessageStop}
 use Rattle.warc_scan.specs.steps.Founds.{AsksByStop, IsFound, IsFoundIn, IsGroupIn, first_record, second_record}
 use Rattle.warc_scan.specs.Asking.{second_opening}
 use Rattle.warc_scan.specs.Groups.{IsAnswer, IsGroup, reference_in}
-use Rattle.warc_scan.specs.Openings.{Opening, opening_of, opening_text}
 use Rattle.warc_scan.specs.Answers.{BeginsWithGroup}
-use Rattle.warc_scan.specs.steps.Stops.{IsMessageStop, Refuses}
 use Rattle.warc_scan.specs.declared.group.Group.{Group}
 use Rattle.warc_scan.specs.declared.find.Found.{Found}
-use Rattle.warc_scan.specs.declared.stop.Stop.{Stop}
-use Rattle.warc_scan.specs.declared.stop.Stop.TheVariants.{Open, Until, Wrong, Memory}
-use Rattle.warc_scan.proofs.BlockTold.{block_told}
 use Rattle.warc_scan.proofs.FindLaws.{FirstStands, first_stands, first_text, parts_of, whole_text}
 use Rattle.warc_scan.proofs.FoundLaws.{block_by, cut_by}
 use Rattle.warc_scan.proofs.GroupParts.{first_record_is, group_is, opening_in}

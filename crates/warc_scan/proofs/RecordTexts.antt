@@ -20,12 +20,12 @@ use Rattle.warc_text.specs.References.{Reference}
 use Rattle.warc_text.specs.declared.kind.RecordKind.{RecordKind}
 use Rattle.warc_text.specs.declared.kind.RecordKind.TheVariants as kinds
 use Rattle.warc_text.proofs.LengthLaws.{length-uuid_text}
-use Rattle.warc_scan.specs.Forms.{fits, uuid_form}
-use Rattle.warc_scan.specs.OpenValues.{length_mark}
-use Rattle.warc_scan.specs.Openings.{IsOpening, IsRevisited, IsTarget, Opening, opening_by, opening_text}
-use Rattle.warc_scan.specs.steps.RecordLines.{AreOtherLines, IsOtherLine, IsOtherText, lines_text}
-use Rattle.warc_scan.proofs.Forms.{uuid_fits}
-use Rattle.warc_scan.proofs.Targets.{target_is_one_line}
+use Rattle.record_opening.specs.Forms.{fits, uuid_form}
+use Rattle.record_opening.specs.OpenValues.{length_mark}
+use Rattle.record_opening.specs.Openings.{IsOpening, IsRevisited, IsTarget, Opening, opening_by, opening_text}
+use Rattle.record_opening.specs.RecordLines.{AreOtherLines, IsOtherLine, IsOtherText, lines_text}
+use Rattle.record_opening.proofs.Forms.{uuid_fits}
+use Rattle.record_opening.proofs.Targets.{target_is_one_line}
 
 -- ---- texts without a line's end
 

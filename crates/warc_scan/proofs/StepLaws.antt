@@ -1,83 +1,31 @@
 -- What a refusal of all groups says of the rest of a volume.
-use Rattle.std.proofs.Common.{◌≡◌, ℕ, ◌+◌, ◌<◌, ◌≤◌, inl, inr, Bool, true, false, List, [], ◌∷◌, ◌++◌, length, length-append, drop, None, refl, sym, ap, subst, arith}
-use Rattle.sha1.specs.Sha1.{sha1}
+use Rattle.std.proofs.Common.{◌≡◌, ℕ, ◌+◌, ◌<◌, ◌≤◌, inl, inr, Bool, true, false, List, [], ◌++◌, length, length-append, drop, refl, sym, ap, subst, arith}
 use Rattle.capture.specs.Captures.{taken_back}
-use Rattle.capture.specs.Tails.{IsCommitted, IsTail}
 use Rattle.warc_text.specs.Ids.{id_of}
-use Rattle.warc_text.specs.Lines.{field, opening, type_line, version_line}
-use Rattle.warc_text.specs.Records.{group_text, response_opening}
-use Rattle.warc_text.specs.StandsFor.{GroupsAreCommitted, commit_byte}
+use Rattle.warc_text.specs.Records.{group_text}
+use Rattle.warc_text.specs.StandsFor.{GroupsAreCommitted}
 use Rattle.warc_text.specs.declared.id.IdKind.TheVariants as ids
+use Rattle.record_opening.specs.Fronts.{IsBegun}
+use Rattle.record_opening.specs.Rests.{IsCommittedRest, IsUnfinished}
+use Rattle.record_opening.specs.OpenValues.{Begins}
+use Rattle.record_opening.specs.Stops.{Refuses, no_record_by}
+use Rattle.record_opening.specs.declared.no_record.NoRecord.{NoRecord}
+use Rattle.record_opening.specs.declared.no_record.NoRecord.TheVariants as no_record
+use Rattle.record_opening.specs.declared.stop.Stop.{Stop}
+use Rattle.record_opening.specs.declared.stop.Stop.TheVariants.{Open, Until, Wrong, Memory}
+use Rattle.record_opening.proofs.Refusals.{begins_ends}
+use Rattle.record_opening.proofs.Samples.{some_opening, some_opening_is, some_text, some_text_begins, some_text_goes_on}
+use Rattle.record_opening.proofs.RestLaws.{no_tail, begun_is_no_tail, begun_is_short, begun_begins}
 use Rattle.warc_scan.specs.steps.Founds.{AsksByStop, no_group_by}
 use Rattle.warc_scan.specs.Asking.{AsksForGroup, AsksForMore, IsAskedFor}
-use Rattle.warc_scan.specs.steps.Fronts.{IsBegun}
 use Rattle.warc_scan.specs.Groups.{IsGroup, reference_in}
-use Rattle.warc_scan.specs.Openings.{IsOpening, Opening, opening_by}
-use Rattle.warc_scan.specs.Answers.{GroupsReach, HasNoGroup, IsCommittedRest, IsUnfinished, TellsGroup, TellsNoGroup}
-use Rattle.warc_scan.specs.OpenValues.{Begins}
-use Rattle.warc_scan.specs.steps.Stops.{Refuses, no_record_by}
+use Rattle.warc_scan.specs.Answers.{GroupsReach, HasNoGroup, TellsGroup, TellsNoGroup}
 use Rattle.warc_scan.specs.declared.group.Group.{Group}
 use Rattle.warc_scan.specs.declared.group_step.GroupStep.TheVariants as group_step
-use Rattle.warc_scan.specs.declared.no_record.NoRecord.{NoRecord}
-use Rattle.warc_scan.specs.declared.no_record.NoRecord.TheVariants as no_record
-use Rattle.warc_scan.specs.declared.stop.Stop.{Stop}
-use Rattle.warc_scan.specs.declared.stop.Stop.TheVariants.{Open, Until, Wrong, Memory}
-use Rattle.warc_scan.proofs.Refusals.{begins_ends}
-use Rattle.warc_scan.proofs.Samples.{opening_with, some_digest_is, some_target, some_target_is}
-
--- an opening of which there is one
-abbrev pub some_opening : Opening
-some_opening = opening_with 0 some_target (sha1 [])
-
-pub some_opening_is : IsOpening some_opening
-some_opening_is = record { date_is = omega arith; target = some_target_is; digest_is = some_digest_is; refers = tt; whole = tt }
-
--- its text
-abbrev pub some_text : List ℕ → List ℕ
-some_text id = opening_by id some_opening None
-
-pub some_text_begins : (id : List ℕ) → some_text id ≡ 87 ∷ drop 1 (some_text id)
-unfolding response_opening opening version_line type_line field
-some_text_begins id = refl
-
-pub some_text_goes_on : (id : List ℕ) → 0 < length (drop 1 (some_text id))
-unfolding response_opening opening version_line type_line field
-some_text_goes_on id = omega arith
 
 -- each group with this number is refused
 abbrev pub RefusesGroups : List ℕ → ℕ → Stop → List ℕ → Type 0
 RefusesGroups namespace number stop bytes = (text : List ℕ) (group : Group) → IsGroup namespace number text group → Refuses stop bytes text
-
--- ---- what is committed is no tail
-
-apart : (text : List ℕ) → IsCommitted commit_byte text → IsTail commit_byte text → ⊥
-apart text committed tail = elim tail.unfinished [ inl other ↦ other committed.begins | inr one ↦ omega (arith, one, committed.more) ]
-
-pub no_tail : (more : Bool) (bytes : List ℕ) → IsCommittedRest more bytes → ¬ (IsUnfinished more bytes)
-no_tail true bytes committed tail = apart (bytes ++ (0 ∷ [])) (committed (0 ∷ []) (omega arith)) (tail (0 ∷ []) (omega arith))
-no_tail false bytes committed tail = apart (bytes ++ []) (committed [] refl) (tail [] refl)
-
--- the commit byte and another one may follow
-two_bytes : IsCommitted commit_byte (87 ∷ 87 ∷ [])
-two_bytes = record { begins = refl; more = omega arith }
-
-three_bytes : IsCommitted commit_byte (87 ∷ 87 ∷ 87 ∷ [])
-three_bytes = record { begins = refl; more = omega arith }
-
-pub begun_is_no_tail : (bytes : List ℕ) → IsBegun bytes → ¬ (IsUnfinished true bytes)
-begun_is_no_tail bytes (inl none) tail =
-    apart (87 ∷ 87 ∷ []) two_bytes (subst (λ b. IsTail commit_byte (b ++ (87 ∷ 87 ∷ []))) none (tail (87 ∷ 87 ∷ []) (omega arith)))
-begun_is_no_tail bytes (inr one) tail =
-    apart (87 ∷ 87 ∷ 87 ∷ []) three_bytes (subst (λ b. IsTail commit_byte (b ++ (87 ∷ 87 ∷ []))) one (tail (87 ∷ 87 ∷ []) (omega arith)))
-
-pub begun_is_short : (bytes : List ℕ) → IsBegun bytes → length bytes < 2
-begun_is_short bytes (inl none) = omega (arith, ap length none)
-begun_is_short bytes (inr one) = omega (arith, ap length one)
-
--- each text that goes on behind the commit byte begins so
-pub begun_begins : (rest bytes : List ℕ) → 0 < length rest → IsBegun bytes → Begins (87 ∷ rest) bytes
-begun_begins rest bytes some (inl none) = record { behind = 87 ∷ rest; composed = ap (λ b. b ++ (87 ∷ rest)) (sym none); more = omega arith }
-begun_begins rest bytes some (inr one) = record { behind = rest; composed = ap (λ b. b ++ rest) (sym one); more = some }
 
 module _ (namespace : List ℕ) (number : ℕ) (bytes : List ℕ) where
   pub wrong_is_damaged : (more : Bool) → RefusesGroups namespace number Wrong bytes → HasNoGroup namespace number more bytes

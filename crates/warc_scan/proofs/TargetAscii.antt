@@ -6,8 +6,8 @@ use Rattle.std.proofs.lemmas.Bool.Decides.{nat_tests}
 use Rattle.std.proofs.lemmas.Str.Ascii.{IsAscii-nil, IsAscii-cons}
 use Rattle.capture.specs.Target.{authority_of, begins_with_http, is_accepted_uri, is_http_target, is_plain_authority, is_target_byte, is_target_text}
 use Rattle.capture.specs.declared.text.Text.{Text}
-use Rattle.warc_scan.specs.Openings.{IsRevisited, reference_of}
-use Rattle.warc_scan.specs.declared.opening_parts.Refers.{Refers}
+use Rattle.record_opening.specs.Openings.{IsRevisited, reference_of}
+use Rattle.record_opening.specs.declared.opening_parts.Refers.{Refers}
 
 both : (a b : Bool) → (a && b) ≡ true → (a ≡ true) × (b ≡ true)
 both true true h = (refl, refl)

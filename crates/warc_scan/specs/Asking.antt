@@ -4,18 +4,16 @@ use Rattle.warc_text.specs.Ids.{id_of}
 use Rattle.warc_text.specs.Lines.{ended, length_lines}
 use Rattle.warc_text.specs.Records.{request_opening}
 use Rattle.warc_text.specs.declared.id.IdKind.TheVariants as ids
-use Rattle.warc_scan.specs.Blocks.{EndsInsideBlock, IsWord}
-use Rattle.warc_scan.specs.Openings.{IsOpening, Opening, opening_text}
-use Rattle.warc_scan.specs.OpenValues.{Begins, EndsInside}
+use Rattle.record_opening.specs.Blocks.{EndsInsideBlock, IsWord}
+use Rattle.record_opening.specs.Openings.{IsOpening, Opening}
+use Rattle.record_opening.specs.OpenValues.{Begins, EndsInside}
+use Rattle.record_opening.specs.declared.no_record.NoRecord.{NoRecord}
+use Rattle.record_opening.specs.declared.no_record.NoRecord.TheVariants as no_record
+use Rattle.record_opening.specs.FirstOpenings.{first_opening}
 use Rattle.warc_scan.specs.declared.group_step.GroupStep.{GroupStep}
 use Rattle.warc_scan.specs.declared.group_step.GroupStep.TheVariants as group_step
-use Rattle.warc_scan.specs.declared.no_record.NoRecord.{NoRecord}
-use Rattle.warc_scan.specs.declared.no_record.NoRecord.TheVariants as no_record
 
--- what a group begins with, up to the block of its first record, and from there to that of its second
-abbrev pub first_opening : List ℕ → ℕ → Opening → List ℕ
-first_opening namespace number o = opening_text (id_of namespace ids.Response number) o
-
+-- what stands from the block of a group's first record to that of its second
 abbrev pub second_opening : List ℕ → ℕ → Opening → List ℕ
 second_opening namespace number o =
     request_opening (id_of namespace ids.Request number) (id_of namespace ids.Response number) o.date o.uri

@@ -16,7 +16,7 @@ use Rattle.warc_text.specs.Ids.{id_of}
 use Rattle.warc_text.specs.Records.{answer_text, group_text}
 use Rattle.warc_text.specs.References.{Reference}
 use Rattle.warc_text.specs.declared.id.IdKind.TheVariants.{Response}
-use Rattle.warc_scan.specs.Openings.{IsRevisited}
+use Rattle.record_opening.specs.Openings.{IsRevisited}
 use Rattle.warc_scan.specs.declared.group.Group.{Group}
 use Rattle.warc_scan.specs.declared.group.Revisited.{Revisited}
 

@@ -1,13 +1,6 @@
 pub mod Answers
 pub mod Asking
-pub mod Blocks
-pub mod FirstOpenings
-pub mod Forms
 pub mod Groups
 pub mod Headed
-pub mod InfoParts
-pub mod Infos
-pub mod OpenValues
-pub mod Openings
 pub mod Outlines
 pub mod steps

@@ -8,17 +8,15 @@ ghost use Rattle.capture.specs.declared.framing.Framing.{Framing as FramingForm}
 ghost use Rattle.capture.specs.declared.framing.FramingFault.{FramingFault};
 ghost use Rattle.httparse.specs.Grammar.{ResponseHead as ResponseForm};
 ghost use Rattle.message_body.specs.Framings.{framing_answer, told_by_response};
-ghost use Rattle.warc_scan.specs.steps.Responses.{AreParts, IsAnswerOf, IsRead, IsSomeBody, IsToldBy, TellsOfBody};
+ghost use Rattle.record_opening.specs.Openings.{IsOpening, opening_of};
+ghost use Rattle.warc_scan.specs.steps.Responses.{AreParts, IsAnswerOf, IsRead, IsSomeBody, IsToldBy, TellsOfBody, IsMessageStop};
 ghost use Rattle.warc_scan.specs.Groups.{HasPayloadLen, IsResponse};
-ghost use Rattle.warc_scan.specs.Openings.{IsOpening, opening_of};
-ghost use Rattle.warc_scan.specs.steps.Stops.{IsMessageStop};
 
-use crate::opening::Opening;
-use crate::stop::Stop;
 use crate::wire_digest::summary_in;
 use capture::{Digest, Framing};
 use http_head::is_short_head;
 use http_wire::{ResponseHead, WireFault, find_head_end, framing_of, read_head};
+use record_opening::{Opening, Stop};
 use std::alloc::Global;
 
 /// The least status of a final response (RFC 9110, section 15).

@@ -1,16 +1,16 @@
 //! What is kept of a group, in memory of its own.
 ghost use Rattle.std.specs.Prelude.{◌≡◌, option_map, IfOk, IfSome, IsTrue};
 ghost use Rattle.capture.specs.Target.{is_accepted_uri};
+ghost use Rattle.record_opening.specs.Openings.{reference_of};
 ghost use Rattle.warc_scan.specs.steps.Founds.{AreCopies, IsFound};
 ghost use Rattle.warc_scan.specs.steps.Responses.{kept_by};
 ghost use Rattle.warc_scan.specs.Groups.{reference_in};
-ghost use Rattle.warc_scan.specs.Openings.{reference_of};
 
 use crate::Revisited;
 use crate::answer::{Answer, Form};
 use crate::find::Found;
-use crate::opening_parts::Refers;
 use capture::{Bytes, Kept, Memory, Text};
+use record_opening::Refers;
 use std::alloc::Global;
 
 /// What a group keeps of its parts.

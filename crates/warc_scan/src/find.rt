@@ -2,23 +2,20 @@
 ghost use Rattle.std.specs.Prelude.{◌≡◌, ℕ, List, IfOk, IfErr, IsErrOf};
 ghost use Rattle.capture.specs.WellFormed.{IsRequestOf};
 ghost use Rattle.capture.specs.declared.captured.Kept.{Kept as KeptForm};
-ghost use Rattle.warc_scan.specs.steps.Responses.{IsAnswerOf};
+ghost use Rattle.record_opening.specs.Stops.{Refuses};
+ghost use Rattle.warc_scan.specs.steps.Responses.{IsAnswerOf, IsMessageStop};
 ghost use Rattle.warc_scan.specs.steps.Founds.{AsksByStop, HasMessages, IsFound, IsFoundIn, IsReadIn};
 ghost use Rattle.warc_scan.specs.Asking.{AsksForMore};
 ghost use Rattle.warc_scan.specs.Groups.{IsGroup};
 ghost use Rattle.warc_scan.specs.Answers.{TellsNoGroup};
-ghost use Rattle.warc_scan.specs.steps.Stops.{IsMessageStop, Refuses};
 ghost use Rattle.warc_scan.specs.declared.group.Group.{Group as GroupForm};
 
-use crate::NoRecord;
 use crate::answer::{Answer, read_answer};
-use crate::block::split_block;
-use crate::front::{Front, front_of};
-use crate::opening::{Opening, read_opening};
-use crate::opening_parts::strip_request_opening;
-use crate::stop::Stop;
 use capture::Text;
 use http_wire::{WireFault, request_method_in};
+use record_opening::{
+    Front, NoRecord, Opening, Stop, front_of, read_opening, split_block, strip_request_opening,
+};
 use std::alloc::Global;
 use uuid::Uuid;
 use warc_text::{IdKind, id_of};

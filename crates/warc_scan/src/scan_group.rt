@@ -7,8 +7,9 @@ ghost use Rattle.warc_scan.specs.Headed.{HasItsParts};
 
 use crate::copy::{Copies, copy_parts};
 use crate::find::{RECORD_END, Read, read_first};
-use crate::{Group, GroupStep, HeadedGroup, NoRecord};
+use crate::{Group, GroupStep, HeadedGroup};
 use capture::Stored;
+use record_opening::NoRecord;
 use std::alloc::Global;
 use uuid::Uuid;
 

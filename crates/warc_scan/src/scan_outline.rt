@@ -8,8 +8,9 @@ ghost use Rattle.warc_scan.specs.Answers.{TellsNoGroup};
 use crate::answer::Answer;
 use crate::copy::{copy_revisited, copy_target};
 use crate::find::{Found, RECORD_END, Read, read_first};
-use crate::{NoRecord, Outline};
+use crate::Outline;
 use capture::{Memory, Text};
+use record_opening::NoRecord;
 use std::alloc::Global;
 use uuid::Uuid;
 

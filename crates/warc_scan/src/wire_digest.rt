@@ -3,12 +3,12 @@ ghost use Rattle.std.specs.Prelude.{◌≡◌, length, IfOk, IfErr, IsErrOf};
 ghost use Rattle.sha1.specs.Sha1.{sha1};
 ghost use Rattle.capture.specs.Body.{IsWire};
 ghost use Rattle.warc_scan.specs.steps.Digests.{HasDigest, HasLength};
-ghost use Rattle.warc_scan.specs.steps.Stops.{IsMessageStop};
+ghost use Rattle.warc_scan.specs.steps.Responses.{IsMessageStop};
 
-use crate::stop::Stop;
 use capture::{Digest, Framing};
 use digest32::payload_digest;
 use http_wire::{PayloadFault, payload_in};
+use record_opening::Stop;
 use std::alloc::Global;
 
 /// What is told of a payload.

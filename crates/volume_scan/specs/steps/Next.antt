@@ -1,8 +1,9 @@
 -- What stands next in a file, of all that it has there.
 use Rattle.std.specs.Prelude.{◌≡◌, ◌<◌, ◌≤◌, ℕ, List, [], ⊤, length}
 use Rattle.capture.specs.Tails.{IsCommitted, IsTail}
-use Rattle.warc_scan.specs.Infos.{IsInfo}
-use Rattle.warc_scan.specs.Answers.{BeginsWithGroup, BeginsWithInfo}
+use Rattle.record_opening.specs.Infos.{IsInfo}
+use Rattle.warc_scan.specs.Answers.{BeginsWithGroup}
+use Rattle.record_opening.specs.InfoAnswers.{BeginsWithInfo}
 use Rattle.warc_scan.specs.Headed.{HasItsParts}
 use Rattle.warc_scan.specs.declared.group.Group.{Group as GroupFound}
 use Rattle.warc_text.specs.Records.{info_most}

@@ -1,6 +1,7 @@
 //! The parts of a step: what stands next, and how the position moves on.
 ghost use Rattle.std.specs.Prelude.{◌≡◌, ◌≢◌, ◌+◌, ◌-◌, ◌<◌, ◌^◌, [], IfOk, IsTrue, OnOk, length};
-ghost use Rattle.warc_scan.specs.Answers.{BeginsWithGroup, BeginsWithInfo};
+ghost use Rattle.warc_scan.specs.Answers.{BeginsWithGroup};
+ghost use Rattle.record_opening.specs.InfoAnswers.{BeginsWithInfo};
 ghost use Rattle.volume_scan.specs.steps.Next.{FitsGroup, FitsInfo, HasInfoText, IsNextGroup, IsNextInfo, IsFurther};
 ghost use Rattle.warc_scan.specs.Headed.{HasItsParts};
 ghost use Rattle.volume_scan.specs.Placed.{HasGroupText};

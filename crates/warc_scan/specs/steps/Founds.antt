@@ -6,27 +6,24 @@ use Rattle.warc_text.specs.Ids.{id_of}
 use Rattle.warc_text.specs.Lines.{ended}
 use Rattle.warc_text.specs.Records.{request_opening}
 use Rattle.warc_text.specs.declared.id.IdKind.TheVariants as ids
+use Rattle.record_opening.specs.Openings.{IsOpening, opening_of, opening_text}
+use Rattle.record_opening.specs.declared.no_record.NoRecord.{NoRecord}
+use Rattle.record_opening.specs.declared.no_record.NoRecord.TheVariants as no_record
+use Rattle.record_opening.specs.declared.stop.Stop.{Stop}
+use Rattle.record_opening.specs.declared.stop.Stop.TheVariants.{Open, Until, Wrong, Memory}
+use Rattle.record_opening.specs.declared.info_step.InfoStep.{InfoStep}
 use Rattle.warc_scan.specs.steps.Responses.{IsAnswerOf, IsRead, kept_by}
 use Rattle.warc_scan.specs.Groups.{HasPayloadLen, reference_in}
-use Rattle.warc_scan.specs.Openings.{IsOpening, opening_of, opening_text}
 use Rattle.warc_scan.specs.declared.group.Group.{Group}
 use Rattle.warc_scan.specs.declared.answer.Answer.{Answer}
 use Rattle.warc_scan.specs.declared.copy.Copies.{Copies}
 use Rattle.warc_scan.specs.declared.find.Found.{Found}
 use Rattle.warc_scan.specs.declared.find.Read.{Read}
-use Rattle.warc_text.specs.declared.id.IdKind.TheVariants as ids
 use Rattle.warc_scan.specs.declared.group_step.GroupStep.{GroupStep}
 use Rattle.warc_scan.specs.declared.group_step.GroupStep.TheVariants as group_step
-use Rattle.warc_scan.specs.declared.no_record.NoRecord.{NoRecord}
-use Rattle.warc_scan.specs.declared.no_record.NoRecord.TheVariants as no_record
-use Rattle.warc_scan.specs.declared.stop.Stop.{Stop}
-use Rattle.warc_scan.specs.declared.stop.Stop.TheVariants.{Open, Until, Wrong, Memory}
 use Rattle.warc_scan.specs.Asking.{EndsInOpening, EndsInBlock}
 use Rattle.warc_scan.specs.declared.outline.Outline.{Outline}
 use Rattle.warc_scan.specs.Outlines.{IsOutlineOf}
-use Rattle.warc_scan.specs.declared.group_step.GroupStep.TheVariants as group_step
-use Rattle.warc_scan.specs.declared.info_step.InfoStep.{InfoStep}
-use Rattle.warc_scan.specs.declared.no_record.NoRecord.TheVariants as no_record
 
 -- its response or revisit record
 abbrev pub first_record : List ℕ → ℕ → Found → List ℕ

@@ -1,5 +1,5 @@
 -- The response of a group, by the block of its record.
-use Rattle.std.specs.Prelude.{◌≡◌, ◌≢◌, ℕ, ◌≤◌, List, [], ◌++◌, length, Some, Result, Ok}
+use Rattle.std.specs.Prelude.{◌≡◌, ◌≢◌, ℕ, ◌≤◌, List, [], ◌++◌, length, Some, Result, Ok, ⊤}
 use Rattle.httparse.specs.Grammar.{ResponseHead}
 use Rattle.capture.specs.Captures.{is_cut, kept_wire}
 use Rattle.capture.specs.Head.{head_end}
@@ -10,14 +10,16 @@ use Rattle.capture.specs.declared.framing.Framing.{Framing}
 use Rattle.capture.specs.declared.framing.Framing.TheVariants.{Empty}
 use Rattle.capture.specs.declared.framing.FramingFault.{FramingFault}
 use Rattle.http_head.specs.Heads.{HoldsResponse}
+use Rattle.record_opening.specs.Openings.{opening_of}
+use Rattle.record_opening.specs.declared.opening.Opening.{Opening}
+use Rattle.record_opening.specs.declared.stop.Stop.{Stop}
+use Rattle.record_opening.specs.declared.stop.Stop.TheVariants.{Open, Until, Wrong, Memory}
 use Rattle.warc_scan.specs.Groups.{HasPayloadLen, IsAnswer, unknown_number}
-use Rattle.warc_scan.specs.Openings.{opening_of}
 use Rattle.warc_scan.specs.declared.answer.Answer.{Answer}
 use Rattle.warc_scan.specs.declared.answer.Form.{Form}
 use Rattle.warc_scan.specs.declared.answer.Form.TheVariants as forms
 use Rattle.warc_scan.specs.declared.answer.Parts.{Parts}
 use Rattle.warc_scan.specs.declared.answer.Told.{Told}
-use Rattle.warc_scan.specs.declared.opening.Opening.{Opening}
 
 -- the block is the head and the wire that is kept, and they are a response of which the opening speaks
 pub record IsAnswerOf (method block : List ℕ) (opening : Opening) (head : List ℕ) (kept : Kept) : Type 0 where
@@ -58,3 +60,10 @@ pub record IsRead (method block : List ℕ) (opening : Opening) (answer : Answer
 -- a head that tells of a body, however long that is
 abbrev pub IsSomeBody : Result Framing FramingFault → Type 0
 IsSomeBody told = (framing : Framing) × (told ≡ Ok framing) × (framing ≢ Empty)
+
+-- a message that is there whole is one, or is none
+abbrev pub IsMessageStop : Stop → Type 0
+IsMessageStop Open = ⊥
+IsMessageStop (Until n) = ⊥
+IsMessageStop Wrong = ⊤
+IsMessageStop Memory = ⊤

@@ -1,6 +1,7 @@
 use Rattle.std.proofs.Common.{rules, ◌≡◌, false, ℕ, List, sym, subst, ◌∙◌}
 use Rattle.warc_scan.specs.Outlines.{BeginsWithOutline}
-use Rattle.warc_scan.specs.Answers.{HasNoGroup, IsUnfinished}
+use Rattle.warc_scan.specs.Answers.{HasNoGroup}
+use Rattle.record_opening.specs.Rests.{IsUnfinished}
 use Rattle.archive_reading.proofs.KeptGroupLaws.{none_in_damage, none_in_nothing, none_in_tail}
 use Rattle.archive_reading.proofs.kept_group.group_in.Goals as goal
 

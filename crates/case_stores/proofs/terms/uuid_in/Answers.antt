@@ -1,5 +1,5 @@
 -- What is read of a text of that length is a UUID.
-use Rattle.warc_scan.proofs.UuidParsing.{parsed_is_uuid}
+use Rattle.record_opening.proofs.UuidParsing.{parsed_is_uuid}
 use Rattle.case_stores.proofs.terms.uuid_in.Goals as goal
 
 pub returns-in-Ok : goal.returns-in-Ok

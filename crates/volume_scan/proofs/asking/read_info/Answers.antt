@@ -1,5 +1,5 @@
 use Rattle.std.proofs.Common.{refl, arith}
-use Rattle.warc_scan.proofs.InfoSteps.{least_is_long}
+use Rattle.record_opening.proofs.InfoSteps.{least_is_long}
 use Rattle.volume_scan.proofs.Parts.{rests_still}
 use Rattle.volume_scan.proofs.asking.read_info.Goals as goal
 

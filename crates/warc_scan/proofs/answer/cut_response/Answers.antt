@@ -1,10 +1,10 @@
 use Rattle.std.proofs.Common.{true, Err, refl, sym, ap, subst, ◌∙◌}
 use Rattle.std.proofs.lemmas.Bool.{false≢true}
 use Rattle.capture.proofs.PayloadLaws.{one_payload}
+use Rattle.record_opening.proofs.Exits.{at_wrong_exit}
 use Rattle.warc_scan.specs.steps.Digests.{HasDigest}
 use Rattle.warc_scan.proofs.AnswerHeads.{begins_at_once}
 use Rattle.warc_scan.proofs.AnswerParts.{cut_is, cut_len, cut_long, cut_other, cut_untold, digest_found}
-use Rattle.warc_scan.proofs.Exits.{at_wrong_exit}
 use Rattle.warc_scan.proofs.answer.cut_response.Goals as goal
 
 pub is_short_head-requires : goal.is_short_head-requires

@@ -1,8 +1,8 @@
 use Rattle.std.proofs.Common.{Err, ap, subst, refl}
 use Rattle.capture.specs.Captures.{kept_wire}
+use Rattle.record_opening.proofs.Exits.{at_wrong_exit}
 use Rattle.warc_scan.specs.steps.Responses.{IsAnswerOf}
 use Rattle.warc_scan.proofs.AnswerParts.{has_head, read_of}
-use Rattle.warc_scan.proofs.Exits.{at_wrong_exit}
 use Rattle.warc_scan.proofs.answer.read_answer.Goals as goal
 
 pub returns-in_err-parts-clause-wrong : goal.returns-in_err-parts-clause-wrong

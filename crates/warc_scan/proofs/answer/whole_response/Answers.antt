@@ -1,9 +1,9 @@
 use Rattle.std.proofs.Common.{false, Err, refl, sym, ap, subst, ◌∙◌, arith}
 use Rattle.std.proofs.lemmas.Bool.{false≢true}
 use Rattle.capture.proofs.PayloadLaws.{one_payload}
+use Rattle.record_opening.proofs.Exits.{at_wrong_exit}
 use Rattle.warc_scan.specs.steps.Digests.{HasDigest}
 use Rattle.warc_scan.proofs.AnswerParts.{digest_found, whole_is, whole_len, whole_other, whole_untold}
-use Rattle.warc_scan.proofs.Exits.{at_wrong_exit}
 use Rattle.warc_scan.proofs.answer.whole_response.Goals as goal
 
 pub returns-in-Err-clause-wrong : goal.returns-in-Err-clause-wrong

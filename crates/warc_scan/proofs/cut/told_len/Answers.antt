@@ -1,5 +1,5 @@
 use Rattle.std.proofs.Common.{Some, length, sym, ap, subst, arith}
-use Rattle.warc_scan.specs.steps.RecordLines.{BeginsWithRecord}
+use Rattle.record_opening.specs.RecordLines.{BeginsWithRecord}
 use Rattle.warc_scan.proofs.ToldLens.{group_records}
 use Rattle.warc_scan.proofs.cut.told_len.Goals as goal
 

@@ -3,22 +3,23 @@ use Rattle.std.proofs.lemmas.Result.{err_from_is_err_and}
 use Rattle.warc_text.specs.Ids.{id_of}
 use Rattle.warc_text.specs.Records.{request_opening}
 use Rattle.warc_text.specs.declared.id.IdKind.TheVariants as ids
-use Rattle.warc_scan.specs.steps.BlockParts.{AsksForBlock, HasBlock, RefusesBlock}
-use Rattle.warc_scan.specs.Openings.{opening_of, opening_text}
-use Rattle.warc_scan.specs.steps.Stops.{Differs}
-use Rattle.warc_scan.proofs.FindLaws.{block_asks, first_front, found_in, no_block, no_opening, no_request, no_second_opening, none_told, opening_asks, opening_told_by, parts_of, request_asks, second_front, second_opening_asks, second_told}
+use Rattle.record_opening.specs.BlockParts.{AsksForBlock, HasBlock, RefusesBlock}
+use Rattle.record_opening.specs.Openings.{opening_of, opening_text}
+use Rattle.record_opening.specs.Stops.{Differs}
+use Rattle.record_opening.proofs.FirstLaws.{none_told, opening_told_by}
+use Rattle.warc_scan.proofs.FindLaws.{block_asks, first_front, found_in, no_block, no_opening, no_request, no_second_opening, opening_asks, parts_of, request_asks, second_front, second_opening_asks, second_told}
 use Rattle.warc_scan.proofs.find.find_group.Goals as goal
 
 pub returns-in-Err-clause-err : goal.returns-in-Err-clause-err
 returns-in-Err-clause-err c = λ text group is.
     no_opening c.args.namespace.now c.args.number c.args.bytes.now c.in-Err.stop
-    (none_told c.args.namespace.now c.args.number c.args.bytes.now c.id_of-id.result [] c.id_of-id.ensures c.in-Err.stop c.in-Err.ensures.err)
+    (none_told c.args.namespace.now c.args.number c.args.bytes.now c.id_of-id.result c.id_of-id.ensures c.in-Err.stop c.in-Err.ensures.err)
     text (parts_of c.args.namespace.now c.args.number text group is)
 
 pub returns-in-Err-clause-asks : goal.returns-in-Err-clause-asks
 returns-in-Err-clause-asks c =
     opening_asks c.args.namespace.now c.args.number c.args.bytes.now c.in-Err.stop
-    (none_told c.args.namespace.now c.args.number c.args.bytes.now c.id_of-id.result [] c.id_of-id.ensures c.in-Err.stop c.in-Err.ensures.err)
+    (none_told c.args.namespace.now c.args.number c.args.bytes.now c.id_of-id.result c.id_of-id.ensures c.in-Err.stop c.in-Err.ensures.err)
 
 pub returns-in_err-answer-clause-err : goal.returns-in_err-answer-clause-err
 returns-in_err-answer-clause-err c =
@@ -33,7 +34,7 @@ returns-in_err-answer-clause-err c =
     first_front namespace number bytes id [] c.id_of-id.ensures (λ f. RefusesBlock exit.0 f bytes) o rest c.in-Ok.ensures.ok
     (subst (λ s. RefusesBlock s (take (length bytes - length rest) bytes) bytes) (sym exit.2) c.in_err-answer.ensures.err) in
     rw exit.1 (λ text group is.
-    no_block namespace number bytes rest exit.0 o c.in-Ok.ensures.right (opening_told_by namespace number bytes id [] c.id_of-id.ensures o rest c.in-Ok.ensures.ok)
+    no_block namespace number bytes rest exit.0 o c.in-Ok.ensures.right (opening_told_by namespace number bytes id c.id_of-id.ensures o rest c.in-Ok.ensures.ok)
     refused text (parts_of namespace number text group is))
 
 pub returns-in_err-answer-clause-asks : goal.returns-in_err-answer-clause-asks

@@ -1,9 +1,9 @@
 use Rattle.std.proofs.Common.{ℕ, List, Err, ap}
+use Rattle.record_opening.specs.Stops.{Refuses}
+use Rattle.record_opening.proofs.Exits.{at_exit}
 use Rattle.warc_scan.specs.declared.group.Group.{Group}
 use Rattle.warc_scan.specs.steps.Founds.{AsksByStop}
-use Rattle.warc_scan.specs.steps.Stops.{Refuses}
 use Rattle.warc_scan.specs.Groups.{IsGroup}
-use Rattle.warc_scan.proofs.Exits.{at_exit}
 use Rattle.warc_scan.proofs.ReadLaws.{asked_by, found_is, refused_by}
 use Rattle.warc_scan.proofs.find.read_group.Goals as goal
 

@@ -1,7 +1,7 @@
 use Rattle.std.proofs.Common.{Err, refl, sym, ap, subst, ◌∙◌}
 use Rattle.warc_text.proofs.EqualLaws.{one_method}
+use Rattle.record_opening.proofs.Exits.{at_wrong_exit}
 use Rattle.warc_scan.specs.steps.Responses.{IsAnswerOf}
-use Rattle.warc_scan.proofs.Exits.{at_wrong_exit}
 use Rattle.warc_scan.proofs.find.read_messages.Goals as goal
 
 pub returns-in_err-answer-clause-wrong : goal.returns-in_err-answer-clause-wrong

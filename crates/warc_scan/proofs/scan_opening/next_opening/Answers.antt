@@ -1,6 +1,7 @@
 use Rattle.std.proofs.Common.{sym, subst}
-use Rattle.warc_scan.specs.FirstOpenings.{AsksForOpening, TellsNoOpening}
-use Rattle.warc_scan.proofs.FirstLaws.{asks_none, begun_asks, begun_tells, group_opening, tells_none}
+use Rattle.record_opening.specs.FirstOpenings.{AsksForOpening, TellsNoOpening}
+use Rattle.record_opening.proofs.FirstLaws.{asks_none, begun_asks, begun_tells, tells_none}
+use Rattle.warc_scan.proofs.GroupOpenings.{group_opening}
 use Rattle.warc_scan.proofs.scan_opening.next_opening.Goals as goal
 
 pub returns-in-Begun-clause-none : goal.returns-in-Begun-clause-none

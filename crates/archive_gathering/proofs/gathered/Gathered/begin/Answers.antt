@@ -4,7 +4,7 @@ use Rattle.std.specs.Cmp.Lexicographic.{other_text, pointwise, same_text}
 use Rattle.std.proofs.lemmas.Bool.{not-false, not-true}
 use Rattle.std.proofs.lemmas.Result.{on_ok_weaker}
 use Rattle.capture.specs.declared.book.Book.{Book}
-use Rattle.warc_scan.specs.Infos.{IsInfo}
+use Rattle.record_opening.specs.Infos.{IsInfo}
 use Rattle.archive_gathering.specs.Gathering.{HasBegun, HasVolumeMore}
 use Rattle.archive_volumes.specs.Held.{book_of}
 use Rattle.archive_gathering.proofs.BeginLaws.{begun, begun_first, empty_by, filled_all, filled_by, not_zero}

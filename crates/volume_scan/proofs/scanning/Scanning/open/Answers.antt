@@ -1,7 +1,7 @@
 use Rattle.std.proofs.Common.{◌<◌, ◌+◌, ◌++◌, ◌∷◌, ℕ, List, [], length, take, sym, ap, subst, ◌∙◌}
 use Rattle.std.proofs.lemmas.List.{take_at}
 use Rattle.warc_journal.specs.Extents.{texts_in}
-use Rattle.warc_scan.specs.Infos.{IsInfo}
+use Rattle.record_opening.specs.Infos.{IsInfo}
 use Rattle.volume_scan.specs.Scannings.{files_in}
 use Rattle.volume_scan.specs.Unread.{file_at}
 use Rattle.volume_scan.specs.declared.position.Stage.TheVariants.{Opened}

@@ -1,0 +1,14 @@
+pub mod BlockParts
+pub mod Blocks
+pub mod FirstOpenings
+pub mod Forms
+pub mod Fronts
+pub mod InfoAnswers
+pub mod InfoParts
+pub mod Infos
+pub mod OpenValues
+pub mod Openings
+pub mod RecordLines
+pub mod Rests
+pub mod Stops
+pub mod steps

@@ -1,7 +1,0 @@
-use Rattle.std.proofs.Common.{ℕ, ◌<◌, get_or}
-use Rattle.std.specs.Prelude.{IsTrue}
-use Rattle.warc_scan.specs.Forms.{fits}
-use Rattle.warc_scan.proofs.form.open_form.Given as goal
-
-abbrev pub invariant-loop-place : goal.invariant-loop-place
-invariant-loop-place l = (k : ℕ) → k < l.place → IsTrue (fits (get_or l.form k 0) (get_or l.bytes k 0))
