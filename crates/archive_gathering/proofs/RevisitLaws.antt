@@ -12,8 +12,8 @@ use Rattle.capture.specs.declared.book.Book.{Book}
 use Rattle.capture.specs.declared.captured.Kept.{Kept}
 use Rattle.capture.specs.declared.captured.Kept.TheVariants.{Wire, Same, Cut}
 use Rattle.capture.specs.declared.captured.Stored.{Stored}
-use Rattle.volume_scan.proofs.FoundGroups.{group_found, group_is_found, kept_found, revisited_of}
-use Rattle.volume_scan.proofs.FoundTexts.{found_writable}
+use Rattle.warc_scan.proofs.FoundGroups.{group_found, group_is_found, kept_found, revisited_of}
+use Rattle.warc_scan.proofs.FoundTexts.{found_writable}
 use Rattle.warc_journal.specs.Texts.{with_more}
 use Rattle.warc_scan.specs.Groups.{IsAnswer, IsGroup, reference_in}
 use Rattle.warc_scan.specs.declared.group.Group.{Group}

@@ -22,7 +22,7 @@ use Rattle.capture.specs.declared.captured.Taken.{Taken}
 use Rattle.digest32.specs.Base32.{IsDigest}
 use Rattle.httparse.specs.Grammar.{ResponseHead, print_blank, print_end, print_request, print_section, print_version}
 use Rattle.time_text.specs.Texts.{InRange}
-use Rattle.volume_scan.proofs.FoundTexts.{found_writable}
+use Rattle.warc_scan.proofs.FoundTexts.{found_writable}
 use Rattle.warc_journal.specs.declared.place.Place.{Place}
 use Rattle.warc_scan.specs.Groups.{IsAnswer, IsGroup, reference_in}
 use Rattle.warc_scan.specs.declared.group.Group.{Group}

@@ -23,7 +23,7 @@ use Rattle.archive_shelf.specs.Gaining.{CapturesAddTheirGroup, VolumesAddTheirTe
 use Rattle.archive_shelf.specs.Storing.{new_volume, with_capture}
 use Rattle.warc_scan.specs.Groups.{IsGroup, reference_in}
 use Rattle.warc_scan.specs.declared.group.Group.{Group}
-use Rattle.volume_scan.proofs.FoundGroups.{group_found, group_is_found, revisited_of}
+use Rattle.warc_scan.proofs.FoundGroups.{group_found, group_is_found, revisited_of}
 use Rattle.archive_pieces.specs.NextPieces.{Takes}
 use Rattle.archive_gathering.proofs.FrontLaws.{last_with_more}
 use Rattle.archive_gathering.proofs.RevisitLaws as revisits

@@ -25,7 +25,7 @@ use Rattle.warc_text.specs.declared.same_of.SameOf.{SameOf}
 use Rattle.warc_scan.specs.Groups.{HasPayloadLen, IsAnswer, IsGroup, IsRevisit, reference_in}
 use Rattle.warc_scan.specs.declared.group.Group.{Group}
 use Rattle.warc_scan.specs.declared.group.Revisited.{Revisited}
-use Rattle.volume_scan.proofs.FoundGroups.{group_found, group_is_found, kept_found, revisited_of}
+use Rattle.warc_scan.proofs.FoundGroups.{group_found, group_is_found, kept_found, revisited_of}
 use Rattle.archive_shelf.specs.Answers.{CountsIf}
 use Rattle.archive_shelf.specs.Comparing.{KeepsWire}
 use Rattle.archive_gathering.proofs.RevisitLaws as revisits

@@ -16,7 +16,7 @@ use Rattle.record_opening.specs.InfoAnswers.{BeginsWithInfo, HasNoInfo}
 use Rattle.record_opening.specs.Rests.{IsEnd, IsUnfinished}
 use Rattle.warc_scan.specs.Groups.{IsGroup, reference_in}
 use Rattle.warc_scan.specs.declared.group.Group.{Group}
-use Rattle.volume_scan.proofs.FoundTexts.{found_writable}
+use Rattle.warc_scan.proofs.FoundTexts.{found_writable}
 use Rattle.archive_pieces.specs.PieceParts.{BeginsWithFront, HasNoFront, IsBegunBy, IsNoGroup, IsNotBegun}
 use Rattle.archive_pieces.specs.declared.parts.Front.{Front}
 

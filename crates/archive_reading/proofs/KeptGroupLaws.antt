@@ -19,8 +19,8 @@ use Rattle.warc_text.specs.Groups.{IsWritable}
 use Rattle.warc_text.specs.Records.{group_text}
 use Rattle.warc_text.specs.Sound.{IsSound}
 use Rattle.warc_text.specs.StandsFor.{commit_byte}
-use Rattle.volume_scan.proofs.FoundGroups.{group_found, group_is_found}
-use Rattle.volume_scan.proofs.FoundTexts.{found_writable}
+use Rattle.warc_scan.proofs.FoundGroups.{group_found, group_is_found}
+use Rattle.warc_scan.proofs.FoundTexts.{found_writable}
 use Rattle.archive_volumes.proofs.GroupPlaces.{each_ends, ends_in_text}
 use Rattle.archive_reading.specs.KeptGroups.{EndsGroup, EndsWithin, IsFirstIn, IsFrontOf, IsGroupOf, IsKeptGroup, IsNextAt}
 use Rattle.archive_reading.specs.Rereading.{BeginWithText, Reaches}

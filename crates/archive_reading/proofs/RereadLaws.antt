@@ -24,8 +24,8 @@ use Rattle.warc_text.proofs.PrefixLaws.{groups_are_prefix_free}
 use Rattle.warc_text.specs.Books.{IsGroupText}
 use Rattle.warc_text.specs.References.{Reference}
 use Rattle.warc_text.specs.Sound.{IsSound}
-use Rattle.volume_scan.proofs.FoundGroups.{group_found, group_is_found}
-use Rattle.volume_scan.proofs.FoundTexts.{found_writable}
+use Rattle.warc_scan.proofs.FoundGroups.{group_found, group_is_found}
+use Rattle.warc_scan.proofs.FoundTexts.{found_writable}
 use Rattle.archive_shelf.specs.Comparing.{KeepsWire}
 use Rattle.archive_reading.proofs.BringLaws.{no_digest, texts_stay}
 use Rattle.archive_reading.proofs.FoundLaws.{told_found}

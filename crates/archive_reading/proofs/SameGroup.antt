@@ -21,8 +21,8 @@ use Rattle.warc_text.specs.References.{Reference, reference_of}
 use Rattle.warc_text.specs.Sound.{IsSound}
 use Rattle.warc_text.specs.declared.id.IdKind.TheVariants.{Response}
 use Rattle.warc_text.specs.declared.same_of.SameOf.{SameOf}
-use Rattle.volume_scan.proofs.FoundGroups.{as_found, group_found, group_is_found, kept_found, revisited_of}
-use Rattle.volume_scan.proofs.FoundTexts.{found_writable}
+use Rattle.warc_scan.proofs.FoundGroups.{as_found, group_found, group_is_found, kept_found, revisited_of}
+use Rattle.warc_scan.proofs.FoundTexts.{found_writable}
 use Rattle.archive_reading.specs.Rereading.{IsOwnOf, IsSameOf}
 use Rattle.archive_volumes.specs.Spots.{form_of, is_same_form}
 

@@ -22,7 +22,7 @@ use Rattle.fixity.specs.declared.verdict.Verdict.TheVariants.{Sound}
 use Rattle.verifying.specs.Verified.{SoundVolumesVerify}
 use Rattle.verifying.specs.Verifies.{Checked, IsRight, is_damaged}
 use Rattle.time_text.specs.Texts.{InRange}
-use Rattle.volume_scan.proofs.FoundGroups.{group_found, group_is_found}
+use Rattle.warc_scan.proofs.FoundGroups.{group_found, group_is_found}
 use Rattle.warc_journal.specs.Extents.{warc_files}
 use Rattle.warc_text.proofs.BookLaws.{captures_in-append, slice_get-append}
 use Rattle.warc_text.specs.Books.{IsGroupText, IsVolumeText, joined}

@@ -37,7 +37,7 @@ use Rattle.warc_text.specs.Records.{answer_text, info_text}
 use Rattle.warc_text.specs.References.{Reference, reference_of}
 use Rattle.warc_text.specs.Sound.{IsSound}
 use Rattle.warc_text.specs.declared.id.IdKind.TheVariants as ids
-use Rattle.volume_scan.proofs.FoundGroups.{kept_found}
+use Rattle.warc_scan.proofs.FoundGroups.{kept_found}
 use Rattle.archive_reading.proofs.SameGroup.{Goes, digest_is, goes, goes_by_answer, goes_in_book, refers, some_isnt, taken}
 use Rattle.archive_volumes.specs.Entries.{IsAskedOf, IsToldAs, told_facts}
 use Rattle.archive_volumes.specs.declared.entry.RecordAt.{RecordAt}

@@ -16,7 +16,7 @@ use Rattle.volume_scan.specs.Unread.{unread}
 use Rattle.volume_scan.specs.declared.position.Position.{Position}
 use Rattle.volume_scan.specs.declared.position.Stage.TheVariants.{Skipped}
 use Rattle.volume_scan.proofs.BookLaws.{begins_with_info, first_behind, further_is_rest, info_committed, one_further, rest_is_uncommitted, tail_is_last}
-use Rattle.volume_scan.proofs.FoundGroups.{group_found, group_is_found}
+use Rattle.warc_scan.proofs.FoundGroups.{group_found, group_is_found}
 use Rattle.volume_scan.proofs.Texts.{behind_is, length_texts, text_last}
 
 -- an element of a list is no longer than all of them joined

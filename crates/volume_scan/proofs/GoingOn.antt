@@ -28,7 +28,7 @@ use Rattle.warc_text.proofs.InfoLaws.{info_front, infos_are_committed}
 use Rattle.warc_text.proofs.PrefixLaws.{groups_are_prefix_free}
 use Rattle.volume_scan.specs.Books.{BeginsWith, BooksGoOnWithGroups, BooksGoOnWithInfos, IsReadUpTo, IsVolumeOf}
 use Rattle.volume_scan.proofs.BookLaws.{HasFirst, committed_on, first_behind, further_is_rest, has_rest, none_behind, rest_is_uncommitted, tail_of}
-use Rattle.volume_scan.proofs.FoundTexts.{found_writable}
+use Rattle.warc_scan.proofs.FoundTexts.{found_writable}
 
 -- the captures before a volume, with those of the volume
 pub first_more : (book : Book) (k : ℕ) (volume : Volume) → slice_get book.volumes k ≡ Some volume → first_number book (k + 1) ≡ first_number book k + length volume.captures

@@ -2,8 +2,6 @@ mod Beside
 mod BookLaws
 mod DamageLaws
 mod EndLaws
-pub mod FoundGroups
-pub mod FoundTexts
 mod GoingOn
 mod Judging
 mod NoGroups

@@ -1,7 +1,9 @@
 pub mod AnswerHeads
 pub mod AnswerParts
 pub mod FindLaws
+pub mod FoundGroups
 pub mod FoundLaws
+pub mod FoundTexts
 pub mod GroupOpenings
 pub mod GroupParts
 pub mod ReadLaws

@@ -15,7 +15,7 @@ use Rattle.warc_text.specs.Groups.{IsOneLine, IsReference, IsWritable}
 use Rattle.warc_text.specs.Records.{group_text}
 use Rattle.warc_text.specs.References.{Reference}
 use Rattle.warc_text.proofs.LengthLaws.{response_group_length, revisit_group_length}
-use Rattle.volume_scan.proofs.FoundGroups.{digest_is}
+use Rattle.warc_scan.proofs.FoundGroups.{digest_is}
 
 -- an accepted target is one line
 return_is_no_target : is_target_byte 13 ≡ false
