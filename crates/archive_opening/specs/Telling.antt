@@ -6,7 +6,7 @@ use Rattle.capture.specs.declared.book.Volume.{Volume}
 use Rattle.cdxj_index.specs.OfBook.{AreEntries}
 use Rattle.cdxj_line.specs.declared.line.Line.{Line}
 use Rattle.checkpoint.specs.Checkpoints.{AreLinesFor, IsCheckpoint, checkpoint_of}
-use Rattle.checkpoint.specs.OfVolume.{AreLinesOf}
+use Rattle.checkpoint.specs.OfVolume.{HasCheckpointsOf}
 use Rattle.disk_model.specs.Crash.{Leaves}
 use Rattle.disk_model.specs.Image.{Image, file_of}
 use Rattle.disk_model.specs.declared.disk.Disk.{Ghosts}
@@ -35,10 +35,6 @@ use Rattle.archive_opening.specs.declared.opening.Opened.{Opened as OpenedVolume
 use Rattle.archive_gathering.specs.Shapes.{AreFilledBefore, AreNumbered, AreRequested, IsMadeUp}
 use Rattle.disk_model.specs.declared.kind.Kind.TheVariants.{Warc}
 use Rattle.archive_opening.specs.declared.telling.FileLines.{FileLines}
-
--- Each finished checkpoint is that of a volume behind which another one stands, and has the lines of just this volume.
-pub record HasCheckpointsOf (image : Image) (book : Book) : Type 0 where
-  pub each : (k : ℕ) (lines : List Line) → IsCheckpoint k lines (checkpoint_of image k) → (k + 1 < length book.volumes) × AreLinesOf book k lines
 
 -- an image stands for this sound book, whose ids differ, and its checkpoints are those of it
 pub record IsSettledFor (image : Image) (book : Book) : Type 0 where

@@ -20,7 +20,8 @@ use Rattle.archive_opening.specs.Opening.{IsDamageIn, IsOtherIn, IsOutside}
 use Rattle.archive_gathering.specs.Refusing.{CountsFault, IsCause}
 use Rattle.archive_gathering.specs.Gathering.{IsIn}
 use Rattle.archive_opening.specs.Refusing.{IsBorneOut}
-use Rattle.archive_opening.specs.Telling.{AreCheckpointsSynced, AreReadOrTold, HasCheckpointsOf, IsAskedFor, IsReadWhole}
+use Rattle.archive_opening.specs.Telling.{AreCheckpointsSynced, AreReadOrTold, IsAskedFor, IsReadWhole}
+use Rattle.checkpoint.specs.OfVolume.{HasCheckpointsOf}
 use Rattle.archive_reopening.specs.Reopening.{IsNotOpened, IsReopened}
 use Rattle.archive_volumes.specs.Spots.{is_told_form}
 use Rattle.archive_volumes.specs.Volumes.{IsQuiet}

@@ -16,7 +16,7 @@ use Rattle.checkpoint.proofs.VolumeLaws.{sealed_lines_stay}
 use Rattle.checkpoint.specs.Checkpoints.{IsCheckpoint, checkpoint_of, checkpoint_text}
 use Rattle.checkpoint.specs.Putting.{HoldsCheckpoint}
 use Rattle.cdxj_line.specs.declared.line.Line.{Line}
-use Rattle.archive_opening.specs.Telling.{HasCheckpointsOf}
+use Rattle.checkpoint.specs.OfVolume.{HasCheckpointsOf}
 use Rattle.archive_shelf.proofs.StoringLaws.{capture_grows, volume_grows}
 use Rattle.archive_shelf.specs.Openings.{KeepsCheckpoints}
 use Rattle.archive_shelf.specs.Storing.{with_capture}

@@ -13,11 +13,10 @@ use Rattle.warc_journal.specs.Extents.{warc_files}
 use Rattle.warc_journal.specs.Journals.{Rests}
 use Rattle.cdxj_line.specs.declared.line.Line.{Line}
 use Rattle.checkpoint.specs.Checkpoints.{IsCheckpoint, checkpoint_of}
-use Rattle.checkpoint.specs.OfVolume.{AreLinesOf}
+use Rattle.checkpoint.specs.OfVolume.{AreLinesOf, HasCheckpointsOf}
 use Rattle.checkpoint.specs.Putting.{HoldsCheckpoint, Puts, commit_byte}
 use Rattle.checkpoint.specs.declared.fault.CheckpointFault.{CheckpointFault}
 use Rattle.checkpoint.specs.declared.fault.CheckpointFault.TheVariants as checkpoints
-use Rattle.archive_opening.specs.Telling.{HasCheckpointsOf}
 use Rattle.archive_volumes.specs.declared.spot.Spot.{Spot}
 use Rattle.volume_lines.specs.OfSpots.{AreLinesOfSpots}
 

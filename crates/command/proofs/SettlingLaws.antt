@@ -12,7 +12,8 @@ use Rattle.archive_settling.specs.Supplying.{OpensNoMore, shelved_as}
 use Rattle.archive_volumes.specs.Spots.{AreSpotsOf}
 use Rattle.archive_volumes.specs.Volumes.{OpensNear, crash_of, muted}
 use Rattle.archive_gathering.specs.Gathering.{IsIn}
-use Rattle.archive_opening.specs.Telling.{HasCheckpointsOf, MayBeSettled}
+use Rattle.archive_opening.specs.Telling.{MayBeSettled}
+use Rattle.checkpoint.specs.OfVolume.{HasCheckpointsOf}
 use Rattle.archive_shelf.specs.Contents.{Contents, IsConsistent}
 use Rattle.archive_shelf.specs.Openings.{ImageStandsFor, SameBook}
 use Rattle.archive_shelf.specs.declared.depth.Depth.{Depth}

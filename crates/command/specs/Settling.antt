@@ -3,7 +3,7 @@ use Rattle.std.specs.Prelude.{◌≡◌, ℕ, IsTrue, Result, Ok, Err}
 use Rattle.archive_core.specs.Holdings.{Holdings}
 use Rattle.archive_reopening.specs.Known.{Opening}
 use Rattle.archive_core.specs.Settling.{SettlesOn}
-use Rattle.archive_opening.specs.Telling.{HasCheckpointsOf}
+use Rattle.checkpoint.specs.OfVolume.{HasCheckpointsOf}
 use Rattle.archive_shelf.specs.Openings.{ImageStandsFor}
 use Rattle.archive_volumes.specs.Spots.{AreSpotsOf}
 use Rattle.capture.specs.declared.book.Book.{Book}

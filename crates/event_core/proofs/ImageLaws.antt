@@ -6,7 +6,7 @@ use Rattle.warc_journal.specs.Extents.{cdxj_files}
 use Rattle.checkpoint.specs.Checkpoints.{IsCheckpoint, checkpoint_of}
 use Rattle.archive_settling.proofs.FinishedLaws.{holds_finished}
 use Rattle.archive_settling.specs.Finished.{HasCheckpoint}
-use Rattle.archive_opening.specs.Telling.{HasCheckpointsOf}
+use Rattle.checkpoint.specs.OfVolume.{HasCheckpointsOf}
 use Rattle.archive_settling.specs.Settling.{HasWithout}
 use Rattle.event_core.proofs.CountLaws.{same_without}
 use Rattle.event_core.specs.Machine.{sealed}

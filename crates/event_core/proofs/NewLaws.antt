@@ -7,7 +7,7 @@ use Rattle.warc_text.specs.Ids.{IsUuid}
 use Rattle.archive_shelf.specs.Openings.{ImageStandsFor}
 use Rattle.archive_shelf.specs.Storing.{empty_book}
 use Rattle.archive_gathering.proofs.ReadingLaws.{nothing_read}
-use Rattle.archive_opening.specs.Telling.{HasCheckpointsOf}
+use Rattle.checkpoint.specs.OfVolume.{HasCheckpointsOf}
 use Rattle.event_core.specs.Running.{NewDisksStart}
 
 stands : (namespace : List ℕ) → IsUuid namespace → ImageStandsFor no_files (empty_book namespace)

@@ -12,7 +12,7 @@ use Rattle.archive_shelf.specs.Storing.{empty_book}
 use Rattle.archive_shelf.specs.declared.fault.ReopenFault.{ReopenFault}
 use Rattle.archive_settling.specs.Finished.{HasCheckpoint}
 use Rattle.archive_opening.specs.Opening.{IsOutside}
-use Rattle.archive_opening.specs.Telling.{HasCheckpointsOf}
+use Rattle.checkpoint.specs.OfVolume.{HasCheckpointsOf}
 use Rattle.archive_settling.specs.Settling.{HasWithout}
 use Rattle.event_core.specs.Acknowledged.{StandFrom, acknowledged}
 use Rattle.event_core.specs.Events.{Runs}

@@ -2,7 +2,7 @@
 use Rattle.std.specs.Prelude.{◌≡◌, ◌⊎◌, ℕ, Bool, List, length, IsTrue, Option, Result, MatchResult, ⊤}
 use Rattle.archive_core.specs.Holdings.{Holdings}
 use Rattle.archive_shelf.specs.Answers.{CountsIf}
-use Rattle.archive_opening.specs.Telling.{HasCheckpointsOf}
+use Rattle.checkpoint.specs.OfVolume.{HasCheckpointsOf}
 use Rattle.archive_shelf.specs.Openings.{HasIds, ImageStandsFor, Moves, SameBook, StaysCovered}
 use Rattle.archive_volumes.specs.Volumes.{OpensNear, crash_of}
 use Rattle.capture.specs.Captures.{captures}

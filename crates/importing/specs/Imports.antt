@@ -12,7 +12,7 @@ use Rattle.archive_shelf.specs.declared.fault.StoreFault.{StoreFault}
 use Rattle.archive_shelf.specs.declared.fault.StoreFault.TheVariants as stores
 use Rattle.capture.specs.declared.book.Book.{Book}
 use Rattle.capture.specs.declared.captured.Taken.{Taken}
-use Rattle.archive_opening.specs.Telling.{HasCheckpointsOf}
+use Rattle.checkpoint.specs.OfVolume.{HasCheckpointsOf}
 use Rattle.disk_model.specs.Crash.{Leaves}
 use Rattle.command.specs.Gates.{gate_told}
 use Rattle.command.specs.Objects.{Objects}

@@ -8,7 +8,8 @@ use Rattle.archive_settling.specs.Finished.{FirstAreFinished}
 use Rattle.archive_core.specs.Holdings.{Holdings, contents_of}
 use Rattle.archive_reopening.specs.Known.{by_checkpoints, opening_of, told_at}
 use Rattle.archive_settling.specs.Settling.{KeepsSettled}
-use Rattle.archive_opening.specs.Telling.{HasCheckpointsOf, IsReadWhole}
+use Rattle.archive_opening.specs.Telling.{IsReadWhole}
+use Rattle.checkpoint.specs.OfVolume.{HasCheckpointsOf}
 use Rattle.archive_shelf.specs.declared.depth.Depth.TheVariants.{Checkpoints, Whole}
 use Rattle.checkpoint.specs.declared.fault.CheckpointFault.{CheckpointFault}
 use Rattle.checkpoint.specs.declared.fault.CheckpointFault.TheVariants as checkpoints

@@ -15,7 +15,7 @@ use Rattle.capture.specs.declared.book.Volume.{Volume}
 use Rattle.capture.specs.declared.captured.Stored.{Stored}
 use Rattle.command.proofs.OpeningLaws.{ids_differ}
 use Rattle.disk_model.specs.Image.{Image}
-use Rattle.archive_opening.specs.Telling.{HasCheckpointsOf}
+use Rattle.checkpoint.specs.OfVolume.{HasCheckpointsOf}
 use Rattle.proxy_run.specs.Complete.{HoldsAll, IsReadied}
 use Rattle.warc_journal.specs.Extents.{warc_files}
 use Rattle.warc_text.specs.Sound.{IsSound}
