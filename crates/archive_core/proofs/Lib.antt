@@ -16,6 +16,7 @@ pub mod ReadLaws
 pub mod ReadyLaws
 pub mod SettlingLaws
 pub mod ShelfLaws
+pub mod StoodLaws
 pub mod StoredLaws
 pub mod TellingLaws
 pub mod TextLaws

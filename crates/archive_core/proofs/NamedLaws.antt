@@ -12,15 +12,14 @@ use Rattle.archive_shelf.proofs.EntryLaws.{contains_entry}
 use Rattle.archive_shelf.specs.Answers.{BringsAsShown, IsNamed}
 use Rattle.archive_payloads.proofs.ChooseLaws.{there_is}
 use Rattle.archive_reading.specs.Digests.{BringsDigest}
-use Rattle.archive_volumes.specs.Entries.{EntersAs, entered}
+use Rattle.archive_volumes.specs.Entries.{AreNamed, EntersAs, IsNamedAs, entered}
 use Rattle.archive_volumes.specs.Held.{stored_in}
 use Rattle.archive_volumes.specs.Ready.{record_in, spot_in}
 use Rattle.archive_volumes.specs.declared.entry.RecordAt.{RecordAt}
 use Rattle.archive_volumes.specs.declared.ready.Ready.{Ready}
 use Rattle.archive_volumes.specs.declared.spot.Spot.{Spot}
 use Rattle.archive_volumes.specs.declared.volumes.Volumes.{Volumes}
-use Rattle.archive_gathering.proofs.TakeLaws.{get_before}
-use Rattle.archive_gathering.specs.Gathering.{AreNamed, IsNamedAs}
+use Rattle.archive_volumes.proofs.SpotLaws.{get_before}
 use Rattle.archive_index.proofs.ShownLaws.{shown_from}
 use Rattle.archive_core.specs.Holdings.{Holdings, IsArchive}
 use Rattle.archive_index.specs.Shown.{numbered}

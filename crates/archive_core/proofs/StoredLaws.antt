@@ -22,7 +22,7 @@ use Rattle.archive_core.specs.Holdings.{Holdings, IsArchive}
 use Rattle.archive_volumes.specs.Spots.{AreHeldWhole, ArePlaced, AreSpotsOf, AreWithin, whole_from}
 use Rattle.archive_volumes.specs.Volumes.{HoldsBook, IsMeasured, crash_of, muted}
 use Rattle.archive_volumes.specs.declared.spot.Spot.{Spot}
-use Rattle.archive_gathering.specs.Gathering.{AreNamed}
+use Rattle.archive_volumes.specs.Entries.{AreNamed}
 
 one_more : (b : Bool) (n : ℕ) → n + (cond b 1 0 + 0) ≡ n + (if b then 1 else 0)
 one_more true n = omega arith

@@ -20,7 +20,7 @@ use Rattle.archive_index.specs.Shown.{numbered}
 use Rattle.archive_volumes.specs.Spots.{AreHeldWhole, ArePlaced, AreSpotsOf, AreWithin, whole_from}
 use Rattle.archive_volumes.specs.Volumes.{HoldsBook, IsMeasured}
 use Rattle.archive_volumes.specs.declared.spot.Spot.{Spot}
-use Rattle.archive_gathering.specs.Gathering.{AreNamed}
+use Rattle.archive_volumes.specs.Entries.{AreNamed}
 
 -- What an archive holds: the journal of its volumes and their book, the index, the table of digests, what is kept of each
 -- capture, its limits, how many captures it found when it was opened, how many refer to another one, how many of the first volumes are

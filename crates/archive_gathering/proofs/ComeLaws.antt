@@ -22,12 +22,11 @@ use Rattle.time_text.specs.Texts.{InRange}
 use Rattle.warc_text.proofs.BookLaws.{get_behind}
 use Rattle.archive_shelf.proofs.StoringLaws.{capture_grows}
 use Rattle.archive_volumes.proofs.GroupPlaces.{in_last_volume}
-use Rattle.archive_volumes.proofs.SpotLaws.{GoOn, made_stay, spots_with, within_with}
+use Rattle.archive_volumes.proofs.SpotLaws.{GoOn, get_before, made_stay, spots_with, within_with}
 use Rattle.archive_volumes.specs.Lines.{is_revisit_line}
 use Rattle.archive_volumes.specs.Spots.{AreHeldWhole, AreSpotsOf, AreWithin, HasPlace, IsInVolume, IsSpotOf, form_of, is_same_form}
 use Rattle.archive_volumes.specs.declared.spot.Form.TheVariants as forms
 use Rattle.archive_gathering.proofs.ShapeLaws.{IsEntryFor, last_some, numbered_with, requested_with, same_length, sealed_at}
-use Rattle.archive_gathering.proofs.TakeLaws.{get_before}
 use Rattle.archive_gathering.proofs.SealedLaws.{sealed_with}
 use Rattle.archive_gathering.specs.Shapes.{AreFilledBefore, AreNumbered, AreRequested, IsMadeUp, sealed_in}
 use Rattle.archive_gathering.proofs.ToldLaws.{begun_told, tells_told}

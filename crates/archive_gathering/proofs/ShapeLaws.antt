@@ -8,7 +8,7 @@ use Rattle.std.proofs.lemmas.List.Elements.{Contains-push_cases}
 use Rattle.cdxj_index.specs.Facts.{Facts}
 use Rattle.cdxj_index.specs.OfBook.{by_number}
 use Rattle.archive_shelf.proofs.ComparingLaws.{placed_later}
-use Rattle.archive_volumes.specs.Entries.{EntersAs}
+use Rattle.archive_volumes.specs.Entries.{EntersAs, IsNamedAs}
 use Rattle.std.proofs.lemmas.Bool.{cases_lt, false≢true}
 use Rattle.std.proofs.lemmas.Option.{same_Some, slice_get_within}
 use Rattle.capture.specs.Captures.{captures, kept_wire, taken_back}
@@ -38,7 +38,7 @@ use Rattle.archive_shelf.specs.Comparing.{KeepsWire}
 use Rattle.archive_shelf.specs.Digests.{HasRequest}
 use Rattle.archive_shelf.specs.Storing.{add_to_last, with_capture}
 use Rattle.archive_volumes.proofs.GroupPlaces.{in_last_volume}
-use Rattle.archive_volumes.proofs.SpotLaws.{form_read, made_with, spots_with}
+use Rattle.archive_volumes.proofs.SpotLaws.{form_read, get_before, made_with, spots_with}
 use Rattle.archive_volumes.specs.Spots.{AreHeldWhole, AreSpotsOf, HasOwnDigest, IsInVolume, IsSpotOf, MayBeWholeAt, RefersBack, form_of, is_told_form, may_be_whole, spot_of}
 use Rattle.archive_volumes.specs.Held.{book_of}
 use Rattle.archive_volumes.specs.declared.spot.Form.{Form}
@@ -46,8 +46,8 @@ use Rattle.archive_volumes.specs.declared.spot.Form.TheVariants as forms
 use Rattle.archive_volumes.specs.declared.spot.Spot.{Spot}
 use Rattle.archive_gathering.proofs.PlaceLaws.{first_within}
 use Rattle.archive_gathering.proofs.SealedLaws.{sealed_with}
-use Rattle.archive_gathering.proofs.TakeLaws.{get_before, sorted_push}
-use Rattle.archive_gathering.specs.Gathering.{HasAdded, IsNamedAs, IsSteady}
+use Rattle.archive_gathering.proofs.TakeLaws.{sorted_push}
+use Rattle.archive_gathering.specs.Gathering.{HasAdded, IsSteady}
 use Rattle.archive_gathering.specs.Noting.{IsNoted, IsWithin, record_at, referring}
 use Rattle.archive_gathering.specs.Shapes.{AreFilledBefore, AreNumbered, AreRequested, HasTakenOne, IsMadeUp, RefersAt, sealed_in}
 use Rattle.archive_gathering.specs.declared.gathered.Gathered.{Gathered}

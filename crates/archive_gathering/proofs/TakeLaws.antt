@@ -1,5 +1,5 @@
 -- What was gathered, with a capture more.
-use Rattle.std.proofs.Common.{◌≡◌, ◌≢◌, ℕ, zero, suc, ◌^◌, ◌<◌, ◌≤◌, false, List, [], ◌∷◌, ◌++◌, length, refl, sym, ap, subst, ◌∙◌, ⊎_elim, arith, length-append}
+use Rattle.std.proofs.Common.{◌≡◌, ◌≢◌, ℕ, ◌^◌, ◌<◌, ◌≤◌, false, List, [], ◌∷◌, ◌++◌, length, refl, sym, ap, subst, ◌∙◌, ⊎_elim, arith, length-append}
 use Rattle.std.specs.Prelude.{Contains, Option, Some, None, slice_get}
 use Rattle.std.specs.Cmp.{nat_cmp_is}
 use Rattle.std.specs.List.{AllByRecursion}
@@ -27,6 +27,7 @@ use Rattle.warc_text.specs.References.{Reference}
 use Rattle.archive_shelf.proofs.ComparingLaws.{placed_before}
 use Rattle.archive_shelf.proofs.EntryLaws.{contains_entry, entries_gain_one, entry_contained, others_contained}
 use Rattle.archive_gathering.specs.Gathering.{AreLengths, GroupWasRead}
+use Rattle.archive_volumes.proofs.SpotLaws.{get_before}
 use Rattle.archive_volumes.specs.declared.spot.Spot.{Spot}
 use Rattle.archive_gathering.specs.Measuring.{IsLengthOf}
 use Rattle.archive_gathering.specs.Noting.{referring}
@@ -65,11 +66,6 @@ captured book group text is (Some first) right = record {
 }
 
 -- ---- lengths
-
-pub get_before : (spots : List Spot) (last : Spot) (number : ℕ) → number < length spots → slice_get (spots ++ last ∷ []) number ≡ slice_get spots number
-get_before [] last number less = absurd (omega (arith, less))
-get_before (s ∷ ss) last zero less = refl
-get_before (s ∷ ss) last (suc n) less = get_before ss last n (omega (arith, less))
 
 pub lengths_with : (old new : Book) (stored : Stored) (spots : List Spot) (last : Spot) (lengths : List ℕ) (len : ℕ) → captures new ≡ captures old ++ stored ∷ []
     → length lengths ≡ length (captures old) → length spots ≡ length (captures old) → AreLengths old spots lengths

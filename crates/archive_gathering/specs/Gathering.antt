@@ -1,5 +1,5 @@
 -- What is gathered of the volumes that were read: their book, what is kept of its captures, and their entries.
-use Rattle.std.specs.Prelude.{◌≡◌, ℕ, ◌+◌, ◌-◌, ◌^◌, ◌<◌, Bool, true, false, All, Contains, List, [], ◌∷◌, ◌++◌, length, slice_get, slice_index_or, option_to_list, IfNone, IfSome, Option, Some, None, ⊤}
+use Rattle.std.specs.Prelude.{◌≡◌, ℕ, ◌+◌, ◌-◌, ◌^◌, ◌<◌, Bool, true, false, All, List, [], ◌∷◌, ◌++◌, length, slice_get, slice_index_or, option_to_list, IfNone, IfSome, Option, Some, None, ⊤}
 use Rattle.capture.specs.Captures.{KeepsPayload, captures}
 use Rattle.capture.specs.declared.book.Book.{Book}
 use Rattle.capture.specs.declared.captured.Stored.{Stored}
@@ -49,16 +49,6 @@ pub record IsInStepWith (book : Book) (spots : List Spot) (kept : List (List ℕ
 -- each capture's group was read
 abbrev pub AreAllRead : List Spot → Type 0
 AreAllRead spots = All GroupWasRead spots
-
--- an entry tells the target, the date and the digest that are kept of its capture
-pub record IsNamedAs (spot : Spot) (entry : Facts) : Type 0 where
-  pub uri : entry.uri ≡ spot.uri
-  pub date : entry.date ≡ spot.date
-  pub digest : entry.digest ≡ spot.digest
-
--- so does each of these entries
-abbrev pub AreNamed : List Spot → List Facts → Type 0
-AreNamed spots entries = (entry : Facts) → Contains entries entry → (spot : Spot) → slice_get spots entry.number ≡ Some spot → IsNamedAs spot entry
 
 -- they tell of the book whose texts these are; where none is known, each capture was read
 pub record TellsOf (known : Option Book) (book : Book) (texts : List (List ℕ)) (spots : List Spot) (lengths : List ℕ) (entries : List Facts) : Type 0 where

@@ -14,7 +14,7 @@ use Rattle.archive_volumes.specs.declared.spot.Spot.{Spot}
 use Rattle.archive_shelf.specs.Digests.{HasRequest}
 use Rattle.archive_volumes.specs.Held.{book_of}
 use Rattle.archive_volumes.specs.Spots.{AreHeldWhole, AreSpotsOf, is_told_form}
-use Rattle.archive_gathering.specs.Gathering.{AreNamed}
+use Rattle.archive_volumes.specs.Entries.{AreNamed}
 use Rattle.archive_gathering.specs.declared.gathered.Gathered.{Gathered}
 
 -- each volume but the last holds a capture

@@ -32,7 +32,8 @@ use Rattle.warc_text.specs.StandsFor.{StandsFor}
 use Rattle.archive_opening.proofs.FollowingLaws.{rests_on}
 use Rattle.archive_gathering.proofs.KnownLaws.{none_made}
 use Rattle.archive_gathering.proofs.RefusalLaws.{none_joined}
-use Rattle.archive_gathering.specs.Gathering.{AreNamed, IsGathered, IsIn, IsNamedAs, IsSteady}
+use Rattle.archive_gathering.specs.Gathering.{IsGathered, IsIn, IsSteady}
+use Rattle.archive_volumes.specs.Entries.{AreNamed, IsNamedAs}
 use Rattle.archive_opening.specs.Opening.{IsDamageIn, IsOpened, IsOtherIn, IsReadRefusal, IsOutside}
 use Rattle.archive_gathering.specs.Refusing.{IsCause, IsOther}
 use Rattle.archive_opening.specs.Following.{HasAll}

@@ -25,7 +25,8 @@ use Rattle.archive_volumes.specs.Held.{book_of}
 use Rattle.archive_volumes.specs.Spots.{AreHeldWhole, ArePlaced, AreSpotsOf, AreWithin}
 use Rattle.archive_volumes.specs.Volumes.{IsMeasured}
 use Rattle.archive_opening.specs.declared.opening.Opened.{Opened}
-use Rattle.archive_gathering.specs.Gathering.{AreAllRead, AreNamed, IsIn, IsSteady}
+use Rattle.archive_gathering.specs.Gathering.{AreAllRead, IsIn, IsSteady}
+use Rattle.archive_volumes.specs.Entries.{AreNamed}
 
 -- the files stand for no sound book
 abbrev pub StandForNone : List (List ℕ) → Type 0

@@ -23,7 +23,8 @@ use Rattle.warc_journal.specs.Journals.{disk_of, texts}
 use Rattle.warc_journal.specs.declared.journal.Journal.{Journal}
 use Rattle.archive_shelf.specs.Storing.{is_revisit}
 use Rattle.archive_core.proofs.ArchiveLaws.{entries_shown}
-use Rattle.archive_gathering.specs.Gathering.{AreAllRead, AreNamed, GroupWasRead, IsInStepWith}
+use Rattle.archive_gathering.specs.Gathering.{AreAllRead, GroupWasRead, IsInStepWith}
+use Rattle.archive_volumes.specs.Entries.{AreNamed}
 use Rattle.archive_opening.specs.Opening.{IsUsable}
 use Rattle.archive_payloads.proofs.ChooseLaws.{there_is}
 use Rattle.archive_volumes.specs.Held.{book_of}

@@ -1,171 +1,29 @@
--- What stood finished in an archive's volumes stays through each call.
-use Rattle.std.proofs.Common.{◌≡◌, ◌⊎◌, ℕ, ◌+◌, ◌-◌, ◌<◌, ◌≤◌, Bool, true, false, IsTrue, List, [], length, Option, None, Result, Ok, Err, OnOk, OnErr, refl, sym, ap, subst, ◌∙◌, ⊎_elim, arith}
+-- What stands finished in an archive's volumes when it is opened is kept from then on.
+use Rattle.std.proofs.Common.{◌≡◌, ℕ, ◌-◌, Bool, IsTrue, [], length, Result, Ok, Err, refl, sym, ap, subst, ◌∙◌, arith}
 use Rattle.std.specs.Prelude.{IfOk, slice_index_or}
-use Rattle.std.proofs.lemmas.Bool.{cases_lt}
-use Rattle.std.proofs.lemmas.List.{append-nil}
 use Rattle.capture.specs.Captures.{captures, captures_in}
-use Rattle.capture.specs.declared.captured.Taken.{Taken}
 use Rattle.capture.specs.declared.limits.Limits.{Limits}
 use Rattle.disk_model.specs.Crash.{Leaves}
 use Rattle.disk_model.specs.Image.{Image, file_of}
 use Rattle.disk_model.specs.declared.kind.Kind.TheVariants.{Warc}
-use Rattle.disk_model.specs.Moments.{AddsOnly}
 use Rattle.disk_model.specs.declared.disk.Disk.{Ghosts}
-use Rattle.warc_journal.specs.Extents.{texts_in, warc_files}
-use Rattle.warc_journal.specs.Journals.{IsLeft, Rests, disk_of, extent_of, last_len, texts}
-use Rattle.warc_journal.specs.Texts.{Hold, with_more}
-use Rattle.warc_journal.specs.declared.extent.Extent.{Extent}
+use Rattle.warc_journal.specs.Extents.{warc_files}
+use Rattle.warc_journal.specs.Journals.{Rests, disk_of, last_len, texts}
+use Rattle.warc_journal.specs.Texts.{Hold}
 use Rattle.warc_journal.specs.declared.journal.Journal.{Journal}
-use Rattle.warc_text.specs.Records.{info_text}
-use Rattle.checkpoint.specs.declared.fault.CheckpointFault.{CheckpointFault}
-use Rattle.archive_shelf.proofs.CallLaws.{begins_both}
 use Rattle.archive_shelf.specs.declared.fault.ReopenFault.{ReopenFault}
-use Rattle.archive_shelf.specs.declared.fault.StoreFault.{StoreFault}
-use Rattle.archive_shelf.specs.declared.fault.StoreFault.TheVariants as stores
-use Rattle.archive_shelf.specs.declared.receipt.Receipt.{Receipt}
 use Rattle.archive_volumes.proofs.ChangeLaws.{DiskLaws}
-use Rattle.archive_volumes.proofs.KeepLaws.{texts_go_more}
 use Rattle.archive_volumes.proofs.RoomLaws.{last_long, texts_count}
-use Rattle.archive_volumes.proofs.SpotLaws.{GoOn}
-use Rattle.archive_volumes.proofs.VolumeLaws.{texts_rest}
 use Rattle.archive_volumes.specs.Held.{book_of}
-use Rattle.archive_volumes.specs.Written.{HoldOneOf, WritesTexts, texts_as}
 use Rattle.archive_opening.specs.Counting.{HasCountsOf, LastEndsAt, StandsUpTo}
 use Rattle.archive_opening.specs.Opening.{IsUsable}
 use Rattle.archive_gathering.specs.Shapes.{sealed_in}
 use Rattle.archive_opening.specs.declared.opening.Opened.{Opened}
 use Rattle.archive_core.specs.Holdings.{Holdings}
-use Rattle.archive_core.specs.Looking.{OnlyLooks}
 use Rattle.archive_reopening.specs.Making.{IsMadeOf}
-use Rattle.archive_core.specs.Settling.{SettlesOn}
-use Rattle.archive_settling.specs.Settling.{reach}
-use Rattle.archive_settling.specs.Supplying.{HasSupplied, shelved_as}
-use Rattle.archive_core.specs.Stores.{Fills, FillsVolumes, LeavesVolumes, texts_where}
-use Rattle.archive_core.specs.Stood.{BeginWith, KeepsOn, KeepsStood, Lasts, Stood}
-use Rattle.archive_core.proofs.TextLaws.{texts_go_on, texts_stay}
-
--- ---- texts and files
-
-begin_on : (was now : List (List ℕ)) → GoOn was now → BeginWith was now
-begin_on was now on = record { enough = on.count; each = λ k less. record { rest = on.rest k; joined = on.each k less } }
-
-begin_itself : (all : List (List ℕ)) → BeginWith all all
-begin_itself all = begin_on all all (texts_stay all)
-
-begin_both : (first then last : List (List ℕ)) → BeginWith first then → BeginWith then last → BeginWith first last
-begin_both first then last a b = record {
-  enough = omega (arith, a.enough, b.enough);
-  each = λ k less.
-      begins_both (slice_index_or first k []) (slice_index_or then k []) (slice_index_or last k []) (a.each k less) (b.each k (omega (arith, less, a.enough)));
-}
-
-begin_held : (all files : List (List ℕ)) → Hold all files → BeginWith all files
-begin_held all files held = record {
-  enough = held.enough;
-  each = λ k less. ⊎_elim
-      (λ (before : k + 1 < length all). record { rest = []; joined = held.sealed k before ∙ sym (append-nil (slice_index_or all k [])) })
-      (λ (last : length all ≤ k + 1).
-      let holds = held.last k (omega (arith, less, last)) in
-      record { rest = holds.rest; joined = holds.composed })
-      (cases_lt (k + 1) (length all));
-}
-
--- ---- calls
-
-module _ {D : Type 0} (d : Ghosts D) (laws : DiskLaws d) (stood : Stood) where
-  -- a run that adds such images alone
-  lasts_by : (old new : D) (P : Image → Type 0) → Lasts d stood old → AddsOnly d.moment d.images_since old new P
-      → ((image : Image) → P image → BeginWith stood.finished (warc_files image)) → Lasts d stood new
-  lasts_by old new P lasts run gives = record {
-    later = omega (arith, lasts.later, run.later);
-    images = λ image left. ⊎_elim (λ was. lasts.images image was) (λ has. gives image has) (run.adds stood.moment image lasts.later left);
-  }
-
-  -- a call that only reads
-  pub keeps_rests : (old new : Journal D) → KeepsStood d stood old → Rests d (disk_of old) (disk_of new) → extent_of new ≡ extent_of old → KeepsStood d stood new
-  keeps_rests old new keeps rests extent = record {
-    lasts = lasts_by (disk_of old) (disk_of new) (λ image. ⊥) keeps.lasts rests.leaves (λ image none. absurd none);
-    begins = subst (BeginWith stood.finished) (sym (texts_rest d old new rests extent)) keeps.begins;
-  }
-
-  pub keeps_looks : (was is : Holdings D) → IsTrue d.tells → OnlyLooks d was is → KeepsStood d stood was.journal → KeepsStood d stood is.journal
-  keeps_looks was is tells looks keeps = keeps_rests was.journal is.journal keeps (looks.bytes tells) looks.extent
-
-  -- a capture is written, behind a volume that is begun or not, or refused
-  module _ (old new : Journal D) (room after : List (List ℕ)) (roomy : BeginWith (texts d old) room) (more : BeginWith room after) where
-    with_after : BeginWith (texts d old) after
-    with_after = begin_both (texts d old) room after roomy more
-
-    keeps_writes : {T E : Type 0} (result : Result T E) → KeepsStood d stood old → WritesTexts d old new (texts_as room after) result → KeepsStood d stood new
-    keeps_writes {T} {E} result keeps wrote = record {
-      lasts = lasts_by (disk_of old) (disk_of new) (IsLeft (d.images (disk_of old)) (HoldOneOf (texts d old) room after)) keeps.lasts wrote.leaves
-          (λ image left. ⊎_elim
-          (λ (before : Hold (texts d old) (warc_files image)). behind (texts d old) (begin_itself (texts d old)) (warc_files image) before)
-          (λ held. ⊎_elim
-          (λ (roomed : Hold room (warc_files image)). behind room roomy (warc_files image) roomed)
-          (λ (then : Hold after (warc_files image)). behind after with_after (warc_files image) then)
-          held)
-          left.described);
-      begins = begin_both stood.finished (texts d old) (texts d new) keeps.begins (read result wrote.added wrote.stays);
-    }
-      where
-        behind : (all : List (List ℕ)) → BeginWith (texts d old) all → (files : List (List ℕ)) → Hold all files → BeginWith stood.finished files
-        behind all on files held =
-            begin_both stood.finished (texts d old) files keeps.begins (begin_both (texts d old) all files on (begin_held all files held))
-
-        read : (r : Result T E) → OnOk r (texts d new ≡ after) → OnErr r ((texts d new ≡ texts d old) ⊎ (texts d new ≡ room)) → BeginWith (texts d old) (texts d new)
-        read (Ok v) added stays = subst (BeginWith (texts d old)) (sym added) with_after
-        read (Err e) added stays = ⊎_elim
-            (λ (same : texts d new ≡ texts d old). subst (BeginWith (texts d old)) (sym same) (begin_itself (texts d old)))
-            (λ (is_room : texts d new ≡ room). subst (BeginWith (texts d old)) (sym is_room) roomy)
-            stays
-
-  -- ---- a store
-
-  module _ (was is : Holdings D) (taken : Taken) (tells : IsTrue d.tells) (keeps : KeepsStood d stood was.journal) where
-    keeps_left : LeavesVolumes d was is → KeepsStood d stood is.journal
-    keeps_left left = keeps_rests was.journal is.journal keeps (left.0 tells) left.1
-
-    keeps_filled : (same : Option ℕ) (result : Result Receipt StoreFault) → FillsVolumes d was is taken same result → KeepsStood d stood is.journal
-    keeps_filled same result f =
-        let room : List (List ℕ) = texts_where d was f.begun taken.date in
-        keeps_writes was.journal is.journal room (with_more room f.group) (roomy f.begun) (begin_on room (with_more room f.group) (texts_go_more room None f.group)) result
-        keeps (f.bytes tells)
-      where
-        roomy : (begun : Bool) → BeginWith (texts d was.journal) (texts_where d was begun taken.date)
-        roomy true =
-            let info : List ℕ = info_text was.book.namespace (length was.book.volumes) taken.date in
-            begin_on (texts d was.journal) (texts_where d was true taken.date) (texts_go_on (texts d was.journal) info)
-        roomy false = begin_itself (texts d was.journal)
-
-    pub keeps_fills : (result : Result Receipt StoreFault) → Fills d was is taken result → KeepsStood d stood is.journal
-    keeps_fills (Ok receipt) f = keeps_filled receipt.same_as (Ok receipt) f
-    keeps_fills (Err (stores.Full count limit)) left = keeps_left left
-    keeps_fills (Err stores.DiskFault) f = ⊎_elim
-        (λ (left : LeavesVolumes d was is). keeps_left left)
-        (λ (put : (same : Option ℕ) × FillsVolumes d was is taken same (Err stores.DiskFault)). keeps_filled put.0 (Err stores.DiskFault) put.1)
-        f
-    keeps_fills (Err (stores.Damaged number digest found)) left = keeps_left left
-    keeps_fills (Err stores.Memory) left = keeps_left left
-
-  -- ---- checkpoints are written
-
-  pub keeps_settled : (was is : Holdings D) (result : Result ℕ CheckpointFault) → IsTrue d.tells → SettlesOn d was is result → KeepsStood d stood was.journal
-      → KeepsStood d stood is.journal
-  keeps_settled was is result tells settles keeps =
-      let left = settles.leaves tells in
-      let upto : ℕ = reach is.settled result in
-      let same : texts d is.journal ≡ texts d was.journal =
-      ap (λ (e : Extent). texts_in e (warc_files (d.reading (disk_of is.journal)))) settles.extent ∙ ap (texts_in (extent_of was.journal)) left.warc in
-      record {
-        lasts = lasts_by (disk_of was.journal) (disk_of is.journal)
-            (HasSupplied (shelved_as was.told was.book was.spots) upto (d.reading (disk_of was.journal)) (d.images (disk_of was.journal))) keeps.lasts left.leaves
-            (λ image has. subst (BeginWith stood.finished) (sym has.2.warc)
-            (keeps.lasts.images has.0 (laws.now_counts (disk_of was.journal) stood.moment has.0 keeps.lasts.later has.1)));
-        begins = subst (BeginWith stood.finished) (sym same) keeps.begins;
-      }
-
--- ---- an opening
+use Rattle.archive_core.specs.Stood.{KeepsStood, Stood}
+use Rattle.archive_core.proofs.StoodLaws.{begin_held, begin_itself}
+use Rattle.archive_reopening.specs.Standing.{KeepsOn}
 
 -- the texts with which a journal goes on, as they stand now
 abbrev standing_on : {D : Type 0} → Ghosts D → Journal D → Stood

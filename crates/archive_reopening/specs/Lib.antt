@@ -1,3 +1,4 @@
 pub mod Known
 pub mod Making
 pub mod Reopening
+pub mod Standing

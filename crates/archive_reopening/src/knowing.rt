@@ -6,7 +6,7 @@ ghost use Rattle.archive_opening.specs.Telling.{MayBeSettled};
 ghost use Rattle.archive_core.specs.Holdings.{AreLimits};
 ghost use Rattle.archive_reopening.specs.Known.{HasCheckpointsOfKnown, IsNotOpenedAt, IsNotOpenedKnown, IsReopenedAt, IsReopenedKnown, MayBeKnown, by_checkpoints, opening_of};
 ghost use Rattle.archive_reopening.specs.Reopening.{IsNotOpened, IsReopened};
-ghost use Rattle.archive_core.specs.Stood.{KeepsOn};
+ghost use Rattle.archive_reopening.specs.Standing.{KeepsOn};
 
 use crate::making::archive_of;
 use crate::whole::open_whole;

@@ -7,4 +7,4 @@ mod watched;
 mod whole;
 
 pub use knowing::{reopen, reopen_known, reopen_told};
-pub use watched::{Since, StoodTexts, Watched};
+pub use watched::{Since, Watched};

@@ -30,6 +30,11 @@ get_within [] k spot e = cc
 get_within (s ∷ ss) zero spot e = omega arith
 get_within (s ∷ ss) (suc k) spot e = omega (arith, get_within ss k spot e)
 
+pub get_before : (spots : List Spot) (last : Spot) (number : ℕ) → number < length spots → slice_get (spots ++ last ∷ []) number ≡ slice_get spots number
+get_before [] last number less = absurd (omega (arith, less))
+get_before (s ∷ ss) last zero less = refl
+get_before (s ∷ ss) last (suc n) less = get_before ss last n (omega (arith, less))
+
 -- what stands in a list with one more at its end stood there, or is that one
 data Stands (spots : List Spot) (last : Spot) (k : ℕ) (spot : Spot) : Type 0 where
   before : slice_get spots k ≡ Some spot → Stands spots last k spot

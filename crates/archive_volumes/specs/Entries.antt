@@ -1,5 +1,5 @@
--- The entry of a capture, by what is told of it and where its record stands.
-use Rattle.std.specs.Prelude.{◌≡◌, ◌≢◌, ℕ, Bool, List, codes, Option, Some, None}
+-- The entry of a capture, by what is told of it and where its record stands, and beside what is kept of it.
+use Rattle.std.specs.Prelude.{◌≡◌, ◌≢◌, ℕ, Bool, List, codes, slice_get, Contains, Option, Some, None}
 use Rattle.httparse.specs.Grammar.{ResponseHead, status_code}
 use Rattle.capture.specs.Fields.{named_values}
 use Rattle.capture.specs.declared.captured.Stored.{Stored}
@@ -9,6 +9,7 @@ use Rattle.cdxj_index.specs.Order.{with_entry}
 use Rattle.surt_key.specs.Key.{key_of}
 use Rattle.archive_volumes.specs.Spots.{form_of, is_same_form}
 use Rattle.archive_volumes.specs.declared.entry.RecordAt.{RecordAt}
+use Rattle.archive_volumes.specs.declared.spot.Spot.{Spot}
 
 -- this is told of the capture: its method, target and date, and whether another capture keeps its payload
 pub record IsAskedOf (stored : Stored) (method uri : List ℕ) (date : ℕ) (revisit : Bool) : Type 0 where
@@ -65,3 +66,15 @@ EntersAs stored head at None = HasNoEntry stored head
 abbrev pub entered : Option Facts → List Facts → List Facts
 entered None index = index
 entered (Some entry) index = with_entry entry index
+
+-- ---- entries and what is kept
+
+-- an entry tells the target, the date and the digest that are kept of its capture
+pub record IsNamedAs (spot : Spot) (entry : Facts) : Type 0 where
+  pub uri : entry.uri ≡ spot.uri
+  pub date : entry.date ≡ spot.date
+  pub digest : entry.digest ≡ spot.digest
+
+-- so does each of these entries
+abbrev pub AreNamed : List Spot → List Facts → Type 0
+AreNamed spots entries = (entry : Facts) → Contains entries entry → (spot : Spot) → slice_get spots entry.number ≡ Some spot → IsNamedAs spot entry

@@ -1,7 +1,8 @@
 -- What stood on a disk is there to be named, also where the disk doesn't tell.
 use Rattle.std.proofs.Common.{◌≡◌, Bool, true, false, IsTrue, refl, sym, ◌∙◌}
 use Rattle.std.proofs.lemmas.Bool.{false≢true}
-use Rattle.archive_core.specs.Stood.{KeepsOn, KeepsStood, Stood, StoodOn, none_stood}
+use Rattle.archive_core.specs.Stood.{KeepsStood, Stood, none_stood}
+use Rattle.archive_reopening.specs.Standing.{KeepsOn, StoodOn}
 use Rattle.disk_model.specs.declared.disk.Disk.{Ghosts as Disks}
 use Rattle.warc_journal.specs.declared.journal.Journal.{Journal}
 

@@ -2,7 +2,7 @@
 ghost use Rattle.std.specs.Prelude.{◌≡◌, ◌⊎◌, IfErr, IfOk, IfSome, IsTrue, List, OnOk, ℕ};
 ghost use Rattle.archive_opening.specs.Telling.{MayBeSettled};
 ghost use Rattle.archive_reopening.specs.Known.{opening_of};
-ghost use Rattle.archive_core.specs.Stood.{KeepsOn};
+ghost use Rattle.archive_reopening.specs.Standing.{KeepsOn};
 ghost use Rattle.command.specs.Opening.{IsNotOpened, IsOpened};
 ghost use Rattle.command.specs.Printing.{LacksMemory, Prints, printed_as};
 ghost use Rattle.command.specs.Texts.{IsFaultText};

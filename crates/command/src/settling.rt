@@ -1,6 +1,7 @@
 //! The checkpoints that are missing are written before and after a command works with its archive.
 ghost use Rattle.std.specs.Prelude.{◌≡◌, IfErr, IfOk, IfSome, IsTrue, OnOk};
-ghost use Rattle.archive_core.specs.Stood.{KeepsOn, KeepsStood, Lasts, Stood};
+ghost use Rattle.archive_core.specs.Stood.{KeepsStood, Lasts, Stood};
+ghost use Rattle.archive_reopening.specs.Standing.{KeepsOn};
 ghost use Rattle.archive_opening.specs.Telling.{MayBeSettled};
 ghost use Rattle.archive_volumes.specs.Volumes.{OpensNear};
 ghost use Rattle.archive_reopening.specs.Known.{by_checkpoints};

@@ -1,9 +1,9 @@
 //! What stood finished in the volumes when an archive was opened on a disk.
 ghost use Rattle.std.specs.Prelude.{IsTrue};
-ghost use Rattle.archive_core.specs.Stood.{KeepsOn, KeepsStood, StoodOn};
+ghost use Rattle.archive_core.specs.Stood.{KeepsStood};
+ghost use Rattle.archive_reopening.specs.Standing.{KeepsOn, StoodOn};
 
-use archive_core::Archive;
-use archive_reopening::StoodTexts;
+use archive_core::{Archive, StoodTexts};
 use disk_model::Disk;
 use shown::{Choice, Shown};
 
@@ -19,7 +19,8 @@ struct HasStood;
 
 impl<'a, D: Disk> Choice<OpenedOn<'a, D>, StoodTexts> for HasStood {
     ghost use Rattle.std.specs.Prelude.{IsTrue};
-    ghost use Rattle.archive_core.specs.Stood.{KeepsStood, StoodOn};
+    ghost use Rattle.archive_core.specs.Stood.{KeepsStood};
+    ghost use Rattle.archive_reopening.specs.Standing.{StoodOn};
 
     ghost holds = { λ opened stood. IsTrue D.tells → StoodOn D.Disk opened.given.now.value stood × KeepsStood D.Disk stood opened.archive.now.journal };
 }

@@ -9,7 +9,7 @@ use Rattle.archive_reopening.specs.Known.{IsReopenedKnown, by_checkpoints}
 use Rattle.command.specs.Settling.{IsOf}
 use Rattle.disk_model.specs.Crash.{Leaves}
 use Rattle.warc_journal.specs.Extents.{cdxj_files}
-use Rattle.archive_core.specs.Stood.{KeepsFinished}
+use Rattle.archive_reopening.specs.Standing.{KeepsFinished}
 use Rattle.archive_core.specs.Told.{told_of, told_on}
 use Rattle.archive_shelf.proofs.CallLaws.{no_more, opened_before}
 use Rattle.archive_shelf.specs.Answers.{CountsIf}

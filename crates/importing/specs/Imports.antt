@@ -3,7 +3,7 @@ use Rattle.std.specs.Prelude.{◌≡◌, ◌⊎◌, ℕ, Bool, true, List, [], �
 use Rattle.std.specs.List.{flat_map}
 use Rattle.archive_core.specs.Holdings.{Holdings, contents_of}
 use Rattle.archive_reopening.specs.Known.{by_checkpoints}
-use Rattle.archive_core.specs.Stood.{KeepsFinished}
+use Rattle.archive_reopening.specs.Standing.{KeepsFinished}
 use Rattle.archive_core.specs.Told.{told_on}
 use Rattle.archive_volumes.specs.Volumes.{OpensNear}
 use Rattle.archive_shelf.specs.Contents.{Contents}

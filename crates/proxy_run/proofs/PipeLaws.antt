@@ -3,7 +3,7 @@ use Rattle.std.proofs.Common.{◌≡◌, ◌⊎◌, ℕ, ◌≤◌, Bool, true, 
 use Rattle.archive_core.proofs.TellingLaws.{quiet_muted}
 use Rattle.archive_core.specs.Holdings.{Holdings}
 use Rattle.archive_reopening.specs.Known.{by_checkpoints}
-use Rattle.archive_core.specs.Stood.{KeepsFinished}
+use Rattle.archive_reopening.specs.Standing.{KeepsFinished}
 use Rattle.archive_core.specs.Told.{told_of}
 use Rattle.archive_settling.specs.Supplying.{OpensNoMore}
 use Rattle.archive_shelf.specs.Openings.{StaysCovered}

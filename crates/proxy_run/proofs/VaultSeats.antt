@@ -7,7 +7,8 @@ use Rattle.std.proofs.lemmas.List.Elements.{All-cons, All-from_recursion, All-ni
 use Rattle.std.proofs.lemmas.List.Sums.{sum_by-cons}
 use Rattle.archive_core.specs.Holdings.{Holdings, contents_of}
 use Rattle.archive_reopening.specs.Known.{by_checkpoints}
-use Rattle.archive_core.specs.Stood.{KeepsFinished, Stood}
+use Rattle.archive_core.specs.Stood.{Stood}
+use Rattle.archive_reopening.specs.Standing.{KeepsFinished}
 use Rattle.archive_core.specs.Told.{told_of}
 use Rattle.checkpoint.specs.OfVolume.{HasCheckpointsOf}
 use Rattle.archive_shelf.specs.Contents.{Contents}

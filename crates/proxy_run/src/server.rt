@@ -1,7 +1,7 @@
 //! The command `serve`: the connections of many clients over one archive.
 ghost use Rattle.std.specs.Prelude.{◌⊎◌, ◌≡◌, ◌<◌, ◌≤◌, ℕ, true, IfSome, IsTrue, List, Option, Some, length};
 ghost use Rattle.archive_core.specs.Holdings.{Holdings, contents_of};
-ghost use Rattle.archive_core.specs.Stood.{StoodOn};
+ghost use Rattle.archive_reopening.specs.Standing.{StoodOn};
 ghost use Rattle.archive_opening.specs.Telling.{MayBeSettled};
 ghost use Rattle.capture.specs.declared.book.Book.{Book};
 ghost use Rattle.archive_reopening.specs.Known.{by_checkpoints};
@@ -21,8 +21,7 @@ ghost use Rattle.warc_text.specs.Ids.{IsUuid};
 use crate::counting::tell_count;
 use crate::seating::serve_by;
 use crate::staffing::find_threads;
-use archive_core::Archive;
-use archive_reopening::StoodTexts;
+use archive_core::{Archive, StoodTexts};
 use capture::Site;
 use command::{Command, Known, Ran, Status, asked_of, open_and_settle, settle_and_close, stood_on};
 use disk_model::Disk;

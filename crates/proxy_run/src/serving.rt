@@ -10,8 +10,8 @@ ghost use Rattle.proxy_run.specs.Serving as spec;
 ghost use Rattle.crew.specs.Crews.{IsEnd};
 ghost use Rattle.proxy_run.specs.Serving.{ServesOne, pipe_site};
 
-use archive_core::Archive;
-use archive_reopening::{Since, StoodTexts, Watched};
+use archive_core::{Archive, StoodTexts};
+use archive_reopening::{Since, Watched};
 use archive_shelf::{Shelf, leading_books_grow};
 use capture::{Memory, Site, Text};
 use command::{Status, hang_up};

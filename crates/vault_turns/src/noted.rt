@@ -1,6 +1,6 @@
 //! The entries of a vault's history, of which only clauses know.
 use crate::item::Item;
-use archive_reopening::StoodTexts;
+use archive_core::StoodTexts;
 use archive_volumes::Held;
 use capture::{Limits, Taken};
 use index_snapshot::Note;

@@ -1,6 +1,6 @@
 -- The archive was opened, and its checkpoints were written; or it was refused.
 use Rattle.std.proofs.Common.{refl}
-use Rattle.archive_reopening.proofs.StoodLaws.{keeps_settled}
+use Rattle.archive_core.proofs.StoodLaws.{keeps_settled}
 use Rattle.archive_volumes.proofs.ChangeLaws.{DiskLaws}
 use Rattle.command.proofs.SettlingLaws.{opens_settled}
 use Rattle.command.proofs.settling.open_and_settle.Given.{Over}

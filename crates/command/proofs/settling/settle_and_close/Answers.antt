@@ -1,6 +1,6 @@
 -- The checkpoints were written, or not for a fault of the disk or want of memory, and the archive was closed.
 use Rattle.std.proofs.Common.{sym, subst}
-use Rattle.archive_reopening.proofs.StoodLaws.{keeps_settled}
+use Rattle.archive_core.proofs.StoodLaws.{keeps_settled}
 use Rattle.archive_core.specs.Stood.{Lasts}
 use Rattle.archive_volumes.proofs.ChangeLaws.{DiskLaws}
 use Rattle.command.proofs.SettlingLaws.{near_still}

@@ -1,6 +1,7 @@
 -- The archive was refused, or the gate's first connection was imported.
 use Rattle.std.proofs.Common.{refl, sym, subst, inl, inr}
-use Rattle.archive_core.specs.Stood.{KeepsOn, Lasts, StoodOn}
+use Rattle.archive_core.specs.Stood.{Lasts}
+use Rattle.archive_reopening.specs.Standing.{KeepsOn, StoodOn}
 use Rattle.archive_volumes.proofs.ChangeLaws.{DiskLaws}
 use Rattle.command.specs.Objects.{objects_of}
 use Rattle.command.proofs.SettlingLaws.{opened_is_of}

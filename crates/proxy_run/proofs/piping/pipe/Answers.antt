@@ -2,7 +2,7 @@
 use Rattle.std.proofs.Common.{ℕ, List, Option, refl, sym, subst, inl, inr}
 use Rattle.std.specs.Prelude.{IfSome}
 use Rattle.archive_reopening.specs.Known.{by_checkpoints}
-use Rattle.archive_core.specs.Stood.{KeepsOn, StoodOn}
+use Rattle.archive_reopening.specs.Standing.{KeepsOn, StoodOn}
 use Rattle.archive_opening.specs.Telling.{MayBeSettled}
 use Rattle.command.specs.Objects.{kinds_of, objects_of}
 use Rattle.command.specs.Opening.{IsNotOpened}

@@ -3,7 +3,8 @@ use Rattle.std.proofs.Common.{â„•, List, Option, IsTrue, refl, sym, ap, subst, â
 use Rattle.std.specs.Prelude.{IfSome}
 use Rattle.archive_core.specs.Holdings.{Holdings, contents_of}
 use Rattle.archive_reopening.specs.Known.{by_checkpoints}
-use Rattle.archive_core.specs.Stood.{KeepsOn, KeepsStood, Stood, StoodOn}
+use Rattle.archive_core.specs.Stood.{KeepsStood, Stood}
+use Rattle.archive_reopening.specs.Standing.{KeepsOn, StoodOn}
 use Rattle.archive_opening.specs.Telling.{MayBeSettled}
 use Rattle.archive_volumes.specs.Volumes.{OpensNear}
 use Rattle.warc_journal.specs.Journals.{disk_of}

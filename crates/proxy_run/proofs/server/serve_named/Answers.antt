@@ -1,7 +1,7 @@
 -- What is told of the passes is told of the crew's seats.
 use Rattle.std.proofs.Common.{◌≡◌, drop, vec_len, sym, ap, subst, arith}
 use Rattle.archive_core.specs.Holdings.{contents_of}
-use Rattle.archive_core.specs.Stood.{StoodOn}
+use Rattle.archive_reopening.specs.Standing.{StoodOn}
 use Rattle.command.specs.Objects.{kinds_of, objects_of}
 use Rattle.command.specs.Printing.{printed_as}
 use Rattle.proxy_run.specs.Serves.{Serves, TellsCount}

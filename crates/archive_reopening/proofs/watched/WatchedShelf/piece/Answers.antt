@@ -6,7 +6,7 @@ use Rattle.archive_volumes.proofs.ChangeLaws.{DiskLaws}
 use Rattle.archive_core.specs.Holdings.{Holdings}
 use Rattle.archive_core.specs.Told.{told_of}
 use Rattle.archive_core.proofs.ShelfLaws.{reads_on}
-use Rattle.archive_reopening.proofs.StoodLaws.{keeps_looks}
+use Rattle.archive_core.proofs.StoodLaws.{keeps_looks}
 use Rattle.archive_reopening.proofs.watched.WatchedShelf.piece.Given.{Over}
 use Rattle.archive_reopening.proofs.watched.WatchedShelf.piece.Goals as goal
 

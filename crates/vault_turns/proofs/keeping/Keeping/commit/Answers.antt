@@ -6,7 +6,7 @@ use Rattle.capture.specs.declared.book.Book.{Book}
 use Rattle.archive_shelf.specs.Comparing.{IsRight}
 use Rattle.archive_volumes.proofs.ChangeLaws.{DiskLaws}
 use Rattle.history_lock.specs.Seen.{Adds}
-use Rattle.archive_reopening.proofs.StoodLaws.{keeps_fills}
+use Rattle.archive_core.proofs.StoodLaws.{keeps_fills}
 use Rattle.archive_index.specs.Shown.{numbered}
 use Rattle.archive_core.specs.Told.{told_of}
 use Rattle.archive_shelf.proofs.CallLaws.{stored_goes_on}

@@ -1,7 +1,7 @@
 -- A payload was looked for.
 use Rattle.std.proofs.Common.{ap, subst, sym}
 use Rattle.std.specs.Prelude.{Contains}
-use Rattle.archive_reopening.proofs.StoodLaws.{keeps_looks}
+use Rattle.archive_core.proofs.StoodLaws.{keeps_looks}
 use Rattle.archive_core.specs.Holdings.{Holdings}
 use Rattle.archive_index.specs.Shown.{numbered}
 use Rattle.archive_payloads.specs.Choosing.{is_look_fault}

@@ -5,7 +5,7 @@ use Rattle.cdxj_index.specs.Facts.{Facts}
 use Rattle.archive_shelf.specs.Answers.{is_bring_fault}
 use Rattle.archive_shelf.specs.Contents.{Contents}
 use Rattle.archive_core.proofs.ShelfLaws.{reads_on}
-use Rattle.archive_reopening.proofs.StoodLaws.{keeps_looks}
+use Rattle.archive_core.proofs.StoodLaws.{keeps_looks}
 use Rattle.archive_index.specs.Shown.{numbered}
 use Rattle.archive_volumes.proofs.ChangeLaws.{DiskLaws}
 use Rattle.history_lock.specs.Seen.{Adds}
