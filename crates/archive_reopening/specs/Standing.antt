@@ -3,7 +3,7 @@ use Rattle.std.specs.Prelude.{◌≡◌, ◌-◌, [], length, slice_index_or}
 use Rattle.capture.specs.declared.book.Book.{Book}
 use Rattle.disk_model.specs.declared.disk.Disk.{Ghosts}
 use Rattle.warc_journal.specs.Extents.{warc_files}
-use Rattle.warc_journal.specs.Journals.{Rests, texts}
+use Rattle.warc_journal.specs.Journals.{Rests}
 use Rattle.warc_journal.specs.Texts.{Hold}
 use Rattle.warc_journal.specs.declared.journal.Journal.{Journal}
 use Rattle.archive_opening.specs.Counting.{HasCountsOf, LastEndsAt}

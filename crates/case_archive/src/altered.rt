@@ -5,19 +5,8 @@ ghost use Rattle.capture.specs.Faults.{CountsFaults};
 ghost use Rattle.disk_model.specs.Image.{no_files};
 
 use capture::Failed;
-use case_disk::reach;
+use case_disk::{Change, reach};
 use disk_model::{Disk, Kind, MemoryDisk};
-
-/// Which byte of a volume's file reads as which.
-#[derive(Clone, Copy)]
-pub struct Change {
-    pub file: u32,
-    /// The place in the file, in bytes.
-    pub place: u64,
-    pub byte: u8,
-    /// So many reads of it give what was written.
-    pub kept_reads: u64,
-}
 
 /// A disk that passes each call on to a disk in memory, and changes what a read gives. It asks the inner disk whether the file and
 /// the range are there, and fails where they aren't.

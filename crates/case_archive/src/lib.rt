@@ -10,6 +10,5 @@ mod looking;
 mod opening;
 mod play;
 
-pub use altered::Change;
 pub use held::Held;
 pub use play::{altered_outcome_of, do_step, outcome_of};

@@ -1,5 +1,5 @@
 //! Plays the steps of a case.
-use crate::altered::{AlteredDisk, Change};
+use crate::altered::AlteredDisk;
 use crate::checkpoints::{checkpoint_in, put_checkpoint};
 use crate::depths::opened_by_both;
 use crate::held::Held;
@@ -8,7 +8,7 @@ use crate::opening::opened;
 use archive_core::Archive;
 use archive_shelf::Depth;
 use capture::Memory;
-use case_disk::{Deed, Outcome, Player, after, kept, outcome_of_steps};
+use case_disk::{Change, Deed, Outcome, Player, after, kept, outcome_of_steps};
 use case_language::number_in;
 use case_stores::{opening_in, told};
 use disk_model::{Disk, MemoryDisk};

@@ -7,8 +7,6 @@ mod found;
 mod plans;
 mod play;
 mod quiet;
-mod setting;
 
 pub use connection::Origins;
 pub use play::outcome_of;
-pub use setting::FolderSetting;

@@ -1,9 +1,19 @@
-//! Steps that say how calls of the file system go, and who else comes. They tell nothing.
+//! How calls of the file system go, and who else comes: as the case is set, and by steps, which tell nothing.
 use crate::quiet::Quiet;
 use capture::Memory;
+use case_disk::FolderSetting;
 use case_language::{TextWords, number_in};
-use memory_folder::Visit;
+use memory_folder::{Plan, Visit};
 use std::alloc::Global;
+
+/// The plan of the setting.
+pub fn plan_of(alloc: Global, setting: FolderSetting) -> Result<Plan, Memory> {
+    let mut plan = Plan::none(alloc);
+    plan.fails = Vec::from_slice(alloc, setting.fails)?;
+    plan.fuse = setting.fuse;
+    plan.in_part = setting.in_part;
+    Ok(plan)
+}
 
 /// Lets nothing change but that nobody holds the folder.
 pub fn unchanged(quiet: Quiet, text: &[u8]) -> Option<Quiet> {

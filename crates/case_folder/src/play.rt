@@ -1,12 +1,11 @@
 //! Plays the steps of a case.
 use crate::connection::{Origins, written};
 use crate::found::{Disk, Found, stopped};
-use crate::plans::{failing_in_part, fused, moving, unchanged, visited};
+use crate::plans::{failing_in_part, fused, moving, plan_of, unchanged, visited};
 use crate::quiet::Quiet;
-use crate::setting::{FolderSetting, plan_of};
 use capture::Memory;
 use case_archive::{Held, do_step};
-use case_disk::{Deed, Outcome, Player, after, outcome_of_steps};
+use case_disk::{Deed, FolderSetting, Outcome, Player, after, outcome_of_steps};
 use folder_disk::{FolderDisk, Unopened};
 use memory_folder::MemoryFolders;
 use std::alloc::Global;

@@ -2,8 +2,7 @@
 use crate::objects::{client_of, dialer_of};
 use crate::sent::put_sent;
 use capture::{Failed, Memory};
-use case_archive::Change;
-use case_disk::{Outcome, after, disk_of, kept, outcome_of_calls};
+use case_disk::{Change, Outcome, after, disk_of, kept, outcome_of_calls};
 use case_exchanges::{fetched, received_requests};
 use case_folder::Origins;
 use case_setting::{Played, Setting};

@@ -1,7 +1,5 @@
 //! What one play of a case is given.
-use case_archive::Change;
-use case_disk::{Deed, DiskSetting, Step, Work};
-use case_folder::FolderSetting;
+use case_disk::{Change, Deed, DiskSetting, FolderSetting, Step, Work};
 use case_language::{Line, Names, decode, number_of, numbers_of};
 use case_texts::Call;
 use disk_model::MemoryDisk;
