@@ -2,11 +2,11 @@
 use Rattle.std.proofs.Common.{◌≡◌, ℕ, IsTrue, List, Option, Some, None, Result, Ok, Err, sym}
 use Rattle.std.specs.Prelude.{Contains, IfNone, IfSome, OnOk}
 use Rattle.capture.specs.declared.book.Book.{Book}
-use Rattle.cdxj_index.proofs.Entries.{with_number-none, with_number-some}
-use Rattle.cdxj_index.proofs.Members.{among_from_contains, contains_from_among}
-use Rattle.cdxj_index.specs.Facts.{Facts}
-use Rattle.cdxj_index.specs.OfBook.{AreEntries, AreOf}
-use Rattle.cdxj_index.specs.Queries.{IsIndex, with_number}
+use Rattle.index_entry.proofs.Entries.{with_number-none, with_number-some}
+use Rattle.index_entry.proofs.Members.{among_from_contains, contains_from_among}
+use Rattle.index_entry.specs.Facts.{Facts}
+use Rattle.index_entry.specs.OfBook.{AreEntries, AreOf}
+use Rattle.index_entry.specs.Queries.{IsIndex, with_number}
 use Rattle.disk_model.specs.declared.disk.Disk.{Ghosts}
 use Rattle.archive_shelf.specs.Answers.{ShowsNone}
 use Rattle.archive_core.specs.Holdings.{Holdings, IsArchive, contents_of}

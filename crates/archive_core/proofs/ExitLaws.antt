@@ -12,12 +12,12 @@ use Rattle.capture.specs.Growth.{Grows}
 use Rattle.capture.specs.declared.book.Book.{Book}
 use Rattle.capture.specs.declared.captured.Stored.{Stored}
 use Rattle.capture.specs.declared.captured.Taken.{Taken}
-use Rattle.cdxj_index.proofs.Entries.{without-absent}
-use Rattle.cdxj_index.proofs.Members.{Among, contains_from_among}
-use Rattle.cdxj_index.specs.Facts.{Facts}
-use Rattle.cdxj_index.specs.OfBook.{AreOf}
-use Rattle.cdxj_index.specs.Order.{with_entry, without}
-use Rattle.cdxj_index.specs.Queries.{IsIndex}
+use Rattle.index_entry.proofs.Entries.{without-absent}
+use Rattle.index_entry.proofs.Members.{Among, contains_from_among}
+use Rattle.index_entry.specs.Facts.{Facts}
+use Rattle.index_entry.specs.OfBook.{AreOf}
+use Rattle.index_entry.specs.Order.{with_entry, without}
+use Rattle.index_entry.specs.Queries.{IsIndex}
 use Rattle.disk_model.specs.Crash.{Leaves}
 use Rattle.disk_model.specs.declared.disk.Disk.{Ghosts}
 use Rattle.httparse.specs.Grammar as grammar

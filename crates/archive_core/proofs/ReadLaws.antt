@@ -5,7 +5,7 @@ use Rattle.capture.proofs.GrowthLaws.{grows_from_itself}
 use Rattle.capture.specs.Captures.{captures}
 use Rattle.capture.specs.declared.book.Book.{Book}
 use Rattle.capture.specs.declared.captured.Brought.{Brought}
-use Rattle.cdxj_index.specs.OfBook.{AreOf, IsEntryOf}
+use Rattle.index_entry.specs.OfBook.{AreOf, IsEntryOf}
 use Rattle.disk_model.specs.Crash.{Leaves}
 use Rattle.disk_model.specs.Image.{Image}
 use Rattle.disk_model.specs.declared.disk.Disk.{Ghosts}

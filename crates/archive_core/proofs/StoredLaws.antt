@@ -6,10 +6,10 @@ use Rattle.capture.specs.Captures.{captures}
 use Rattle.capture.specs.Growth.{Grows}
 use Rattle.capture.specs.declared.book.Book.{Book}
 use Rattle.capture.specs.declared.captured.Stored.{Stored}
-use Rattle.cdxj_index.specs.Facts.{Facts}
-use Rattle.cdxj_index.specs.OfBook.{AreOf}
-use Rattle.cdxj_index.specs.Order.{with_entry}
-use Rattle.cdxj_index.specs.Queries.{IsIndex}
+use Rattle.index_entry.specs.Facts.{Facts}
+use Rattle.index_entry.specs.OfBook.{AreOf}
+use Rattle.index_entry.specs.Order.{with_entry}
+use Rattle.index_entry.specs.Queries.{IsIndex}
 use Rattle.disk_model.specs.declared.disk.Disk.{Ghosts}
 use Rattle.revisit_table.specs.Table.{Table}
 use Rattle.warc_journal.specs.Journals.{disk_of, texts}

@@ -1,7 +1,7 @@
 //! The archive over a disk.
 ghost use Rattle.std.specs.List.{starts_with};
 ghost use Rattle.std.specs.Prelude.{◌≡◌, Contains, IfNone, IfOk, IfSome, IsTrue, Some, bytes_eq, nat_eq, option_copied};
-ghost use Rattle.cdxj_index.specs.Queries.{with_number};
+ghost use Rattle.index_entry.specs.Queries.{with_number};
 ghost use Rattle.warc_journal.specs.Journals.{disk_of};
 ghost use Rattle.archive_shelf.specs.Answers.{ShowsNone};
 ghost use Rattle.archive_shelf.specs.Queries.{ArePicked, IsFound};
@@ -17,8 +17,9 @@ use archive_index::{nearest, starting, with_key};
 use archive_shelf::{Counts, Finder, StoreFault};
 use archive_volumes::{Held, Spot, VolumeFacts, Volumes};
 use capture::{Limits, Memory};
-use cdxj_index::{Entry, Index};
+use cdxj_index::Index;
 use disk_model::{Disk, MemoryDisk};
+use index_entry::Entry;
 use revisit_table::Digests;
 use shown::Shown;
 use std::alloc::Global;

@@ -18,7 +18,7 @@ use Rattle.capture.specs.declared.captured.Stored.{Stored}
 use Rattle.capture.specs.declared.framing.Framing.{Framing}
 use Rattle.capture.specs.declared.framing.Framing.TheVariants.{Length}
 use Rattle.capture.specs.declared.framing.FramingFault.{FramingFault}
-use Rattle.cdxj_index.specs.Facts.{Facts}
+use Rattle.index_entry.specs.Facts.{Facts}
 use Rattle.revisit_table.specs.Table.{numbers_of}
 use Rattle.warc_scan.specs.Groups.{IsAnswer, IsRevisit, reference_in}
 use Rattle.warc_scan.specs.declared.group.Group.{Group}

@@ -5,8 +5,8 @@ use Rattle.std.specs.Cmp.{nat_cmp_is}
 use Rattle.std.specs.List.Sorted.{IsStrictlySortedBy}
 use Rattle.std.specs.declared.cmp.Ordering.TheVariants.{Less}
 use Rattle.std.proofs.lemmas.List.Elements.{Contains-push_cases}
-use Rattle.cdxj_index.specs.Facts.{Facts}
-use Rattle.cdxj_index.specs.OfBook.{by_number}
+use Rattle.index_entry.specs.Facts.{Facts}
+use Rattle.index_entry.specs.OfBook.{by_number}
 use Rattle.archive_shelf.proofs.ComparingLaws.{placed_later}
 use Rattle.archive_volumes.specs.Entries.{EntersAs, IsNamedAs}
 use Rattle.std.proofs.lemmas.Bool.{cases_lt, false≢true}

@@ -16,9 +16,9 @@ use Rattle.capture.specs.declared.captured.Kept.TheVariants.{Wire, Same, Cut}
 use Rattle.capture.specs.declared.captured.Stored.{Stored}
 use Rattle.capture.specs.Growth.{Grows}
 use Rattle.capture.specs.GrowthLaws.{GrowthKeepsCaptures}
-use Rattle.cdxj_index.specs.Facts.{Facts}
-use Rattle.cdxj_index.specs.OfBook.{AreEntries, IsEntryOf, IsFoundByDate, by_number}
-use Rattle.cdxj_index.specs.Order.{with_entry}
+use Rattle.index_entry.specs.Facts.{Facts}
+use Rattle.index_entry.specs.OfBook.{AreEntries, IsEntryOf, IsFoundByDate, by_number}
+use Rattle.index_entry.specs.Order.{with_entry}
 use Rattle.warc_scan.specs.Groups.{IsAnswer, IsGroup, reference_in}
 use Rattle.warc_scan.specs.declared.group.Group.{Group}
 use Rattle.warc_scan.specs.declared.group.Revisited.{Revisited}

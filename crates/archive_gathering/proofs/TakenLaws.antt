@@ -12,7 +12,7 @@ use Rattle.capture.specs.Message.{IsResponseHeadText}
 use Rattle.capture.specs.declared.book.Book.{Book}
 use Rattle.capture.specs.declared.captured.Kept.{Kept}
 use Rattle.capture.specs.declared.captured.Kept.TheVariants.{Wire, Same, Cut}
-use Rattle.cdxj_index.specs.Facts.{Facts}
+use Rattle.index_entry.specs.Facts.{Facts}
 use Rattle.warc_journal.specs.Texts.{with_more}
 use Rattle.warc_journal.specs.declared.place.Place.{Place}
 use Rattle.warc_scan.specs.Groups.{IsAnswer, reference_in}

@@ -19,9 +19,9 @@ use Rattle.capture.specs.declared.book.Volume.{Volume}
 use Rattle.capture.specs.declared.captured.Kept.{Kept}
 use Rattle.capture.specs.declared.captured.Kept.TheVariants.{Wire, Same, Cut}
 use Rattle.capture.specs.declared.captured.Stored.{Stored}
-use Rattle.cdxj_index.specs.Facts.{Facts}
-use Rattle.cdxj_index.specs.OfBook.{AreEntries, IsEntryOf, mime_by}
-use Rattle.cdxj_index.specs.OfLine.{facts_of}
+use Rattle.index_entry.specs.Facts.{Facts}
+use Rattle.index_entry.specs.OfBook.{AreEntries, IsEntryOf, mime_by}
+use Rattle.index_entry.specs.OfLine.{facts_of}
 use Rattle.cdxj_line.specs.MediaType.{is_told, media_type, type_text}
 use Rattle.cdxj_line.specs.declared.line.Line.{Line}
 use Rattle.checkpoint.specs.OfVolume.{IsLineOf}

@@ -7,8 +7,8 @@ use Rattle.capture.specs.Captures.{captures}
 use Rattle.capture.specs.declared.book.Book.{Book}
 use Rattle.capture.specs.declared.captured.Kept.TheVariants.{Wire, Same}
 use Rattle.capture.specs.declared.captured.Stored.{Stored}
-use Rattle.cdxj_index.specs.Facts.{Facts}
-use Rattle.cdxj_index.specs.OfLine.{facts_of}
+use Rattle.index_entry.specs.Facts.{Facts}
+use Rattle.index_entry.specs.OfLine.{facts_of}
 use Rattle.cdxj_line.specs.declared.line.Line.{Line}
 use Rattle.checkpoint.specs.OfVolume.{IsLineOf}
 use Rattle.warc_text.specs.Sound.{IsSound}

@@ -4,8 +4,8 @@ use Rattle.std.specs.List.Sorted.{IsStrictlySortedBy}
 use Rattle.capture.specs.Captures.{captures}
 use Rattle.capture.specs.declared.book.Book.{Book}
 use Rattle.capture.specs.declared.book.Volume.{Volume}
-use Rattle.cdxj_index.specs.Facts.{Facts}
-use Rattle.cdxj_index.specs.OfBook.{by_number}
+use Rattle.index_entry.specs.Facts.{Facts}
+use Rattle.index_entry.specs.OfBook.{by_number}
 use Rattle.volume_scan.specs.declared.found.Found.{Found}
 use Rattle.volume_scan.specs.declared.found.Found.TheVariants as founds
 use Rattle.warc_journal.specs.declared.place.Place.{Place}

@@ -7,7 +7,7 @@ ghost use Rattle.archive_gathering.specs.Noting.{IsNoted, IsPast, IsSomeGroup, I
 
 use archive_volumes::{RecordAt, entry_of};
 use capture::{Digest, Kept, Memory, Stored, wires_have_one_payload};
-use cdxj_index::Entry;
+use index_entry::Entry;
 use std::alloc::Global;
 use warc_journal::Place;
 use warc_scan::{Group, HeadedGroup};

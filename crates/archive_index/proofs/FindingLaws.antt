@@ -1,11 +1,11 @@
 -- What is found in an index is found among what is shown.
 use Rattle.std.proofs.Common.{◌≡◌, ℕ, Bool, List, sym, subst}
 use Rattle.std.specs.Prelude.{filter}
-use Rattle.cdxj_index.proofs.Members.{Among-filter, Among-filter_back, Sorted-filter, among_from_contains, contains_from_among}
-use Rattle.cdxj_index.proofs.Orders.{order_total}
-use Rattle.cdxj_index.specs.Facts.{Facts}
-use Rattle.cdxj_index.specs.Order.{order}
-use Rattle.cdxj_index.specs.Queries.{HasNone, IsIndex, IsNearest}
+use Rattle.index_entry.proofs.Members.{Among-filter, Among-filter_back, Sorted-filter, among_from_contains, contains_from_among}
+use Rattle.index_entry.proofs.Orders.{order_total}
+use Rattle.index_entry.specs.Facts.{Facts}
+use Rattle.index_entry.specs.Order.{order}
+use Rattle.index_entry.specs.Queries.{HasNone, IsIndex, IsNearest}
 use Rattle.archive_shelf.specs.Queries.{ArePicked}
 use Rattle.archive_index.specs.Shown.{numbered}
 use Rattle.archive_index.proofs.ShownLaws.{shown_all, shown_from}

@@ -4,12 +4,12 @@ use Rattle.std.specs.Prelude.{Contains, IfSome}
 use Rattle.std.specs.Cmp.Lexicographic.{slice_cmp}
 use Rattle.std.specs.Ordering.{nat_cmp}
 use Rattle.std.specs.declared.cmp.Ordering.TheVariants.{Equal}
-use Rattle.cdxj_index.proofs.Entries.{Among-with_entry, InOrder-with_entry, with_number-some}
-use Rattle.cdxj_index.proofs.Members.{Among, among_from_contains, contains_from_among}
-use Rattle.cdxj_index.proofs.Orders.{both_equal, moment_tied}
-use Rattle.cdxj_index.specs.Facts.{Facts}
-use Rattle.cdxj_index.specs.Order.{moment_cmp, moment_of, order, with_entry}
-use Rattle.cdxj_index.specs.Queries.{IsIndex, with_number}
+use Rattle.index_entry.proofs.Entries.{Among-with_entry, InOrder-with_entry, with_number-some}
+use Rattle.index_entry.proofs.Members.{Among, among_from_contains, contains_from_among}
+use Rattle.index_entry.proofs.Orders.{both_equal, moment_tied}
+use Rattle.index_entry.specs.Facts.{Facts}
+use Rattle.index_entry.specs.Order.{moment_cmp, moment_of, order, with_entry}
+use Rattle.index_entry.specs.Queries.{IsIndex, with_number}
 use Rattle.capture.specs.declared.captured.Stored.{Stored}
 use Rattle.httparse.specs.Grammar.{ResponseHead}
 use Rattle.archive_volumes.specs.Entries.{EntersAs}

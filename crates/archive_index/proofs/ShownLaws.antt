@@ -5,13 +5,13 @@ use Rattle.std.specs.List.Sorted.{IsStrictlySortedBy}
 use Rattle.std.specs.Cmp.{nat_cmp_is}
 use Rattle.std.specs.declared.cmp.Ordering.TheVariants.{Less}
 use Rattle.std.proofs.lemmas.Bool.{cases_lt, le-ltb, lt-ltb, ltb-true}
-use Rattle.cdxj_index.proofs.Entries.{without-absent}
-use Rattle.cdxj_index.proofs.Orders.{order_total}
-use Rattle.cdxj_index.proofs.Members.{not_below_itself, Among, all_from_among, all_among, among_from_contains, contains_from_among}
-use Rattle.cdxj_index.specs.Facts.{Facts}
-use Rattle.cdxj_index.specs.OfBook.{by_number}
-use Rattle.cdxj_index.specs.Order.{comes_before, order, with_entry, without}
-use Rattle.cdxj_index.specs.Queries.{IsIndex}
+use Rattle.index_entry.proofs.Entries.{without-absent}
+use Rattle.index_entry.proofs.Orders.{order_total}
+use Rattle.index_entry.proofs.Members.{not_below_itself, Among, all_from_among, all_among, among_from_contains, contains_from_among}
+use Rattle.index_entry.specs.Facts.{Facts}
+use Rattle.index_entry.specs.OfBook.{by_number}
+use Rattle.index_entry.specs.Order.{comes_before, order, with_entry, without}
+use Rattle.index_entry.specs.Queries.{IsIndex}
 use Rattle.archive_index.specs.Shown.{numbered, put}
 
 -- ---- an entry behind all others

@@ -2,7 +2,7 @@
 use Rattle.std.specs.Prelude.{◌≡◌, List, Option}
 use Rattle.capture.specs.Message.{IsResponseHeadText}
 use Rattle.capture.specs.declared.captured.Stored.{Stored}
-use Rattle.cdxj_index.specs.Facts.{Facts}
+use Rattle.index_entry.specs.Facts.{Facts}
 use Rattle.httparse.specs.Grammar.{ResponseHead}
 use Rattle.archive_volumes.specs.Entries.{EntersAs, entered}
 use Rattle.archive_volumes.specs.declared.entry.RecordAt.{RecordAt}

@@ -1,6 +1,6 @@
 -- What an archive shows of its index: the entries in order of their numbers.
 use Rattle.std.specs.Prelude.{nat_lt, List, [], ◌∷◌, if◌then◌else◌}
-use Rattle.cdxj_index.specs.Facts.{Facts}
+use Rattle.index_entry.specs.Facts.{Facts}
 
 -- the entries in order of numbers, with one more in its place
 abbrev pub put : Facts → List Facts → List Facts

@@ -1,12 +1,13 @@
 //! Captures by date.
 ghost use Rattle.std.specs.Prelude.{◌≡◌, ◌<◌, ◌++◌, ◌∷◌, [], bytes_eq, nat_eq, IfOk, OnOk};
 ghost use Rattle.std.specs.List.{starts_with};
-ghost use Rattle.cdxj_index.specs.Queries.{IsIndex};
+ghost use Rattle.index_entry.specs.Queries.{IsIndex};
 ghost use Rattle.archive_shelf.specs.Queries.{ArePicked, IsFound};
 ghost use Rattle.archive_index.specs.Shown.{numbered};
 
 use capture::Memory;
-use cdxj_index::{Entry, Index, Steps};
+use cdxj_index::{Index, Steps};
+use index_entry::Entry;
 use std::alloc::Global;
 use std::marker::Brand;
 use std::sync::ledger::{Blank, Ledger};

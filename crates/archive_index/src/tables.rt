@@ -1,13 +1,14 @@
 //! The table and the index that are made of what was gathered.
 ghost use Rattle.std.specs.Prelude.{◌≡◌, IfOk};
 ghost use Rattle.std.specs.List.Sorted.{IsPermutation, IsStrictlySortedBy};
-ghost use Rattle.cdxj_index.specs.OfBook.{by_number};
-ghost use Rattle.cdxj_index.specs.Queries.{IsIndex};
+ghost use Rattle.index_entry.specs.OfBook.{by_number};
+ghost use Rattle.index_entry.specs.Queries.{IsIndex};
 ghost use Rattle.revisit_table.specs.Table.{table_of};
 
 use crate::entry_order::{bring_to_order, compared};
 use capture::Memory;
-use cdxj_index::{Entry, Index};
+use cdxj_index::Index;
+use index_entry::Entry;
 use revisit_table::{Digests, LazyDigests};
 use std::alloc::Global;
 

@@ -17,7 +17,7 @@ use Rattle.warc_text.specs.StandsFor.{StandsFor}
 use Rattle.archive_shelf.specs.declared.fault.ReopenFault.{ReopenFault}
 use Rattle.archive_shelf.specs.declared.fault.ReopenFault.TheVariants as faults
 use Rattle.archive_gathering.specs.Reading.{IsDeadEnd}
-use Rattle.cdxj_index.specs.OfBook.{AreEntries}
+use Rattle.index_entry.specs.OfBook.{AreEntries}
 use Rattle.disk_model.specs.Crash.{Leaves}
 use Rattle.disk_model.specs.declared.disk.Disk.{Ghosts}
 use Rattle.warc_journal.specs.Journals.{IsInStep, Rests, disk_of as disk_of_journal, texts as texts_of}

@@ -4,7 +4,7 @@ use Rattle.std.specs.Prelude.{IfErr, IfOk, IfSome, is_some, slice_get, true, fal
 use Rattle.std.proofs.lemmas.Bool.{false≢true}
 use Rattle.capture.specs.declared.book.Book.{Book}
 use Rattle.capture.specs.declared.limits.Limits.{Limits}
-use Rattle.cdxj_index.specs.OfBook.{AreEntries}
+use Rattle.index_entry.specs.OfBook.{AreEntries}
 use Rattle.disk_model.specs.declared.disk.Disk.{Ghosts}
 use Rattle.warc_journal.specs.Extents.{warc_files}
 use Rattle.warc_journal.specs.Journals.{Rests, disk_of}

@@ -1,6 +1,6 @@
 //! How an archive is made of what was opened on a disk.
 ghost use Rattle.std.specs.Prelude.{◌≡◌, IfErr, IfOk, IsTrue, count_by};
-ghost use Rattle.cdxj_index.specs.OfBook.{AreEntries};
+ghost use Rattle.index_entry.specs.OfBook.{AreEntries};
 ghost use Rattle.warc_journal.specs.Journals.{disk_of};
 ghost use Rattle.archive_shelf.specs.declared.fault.ReopenFault.TheVariants.{Memory as IsMemory};
 ghost use Rattle.archive_opening.specs.Opening.{IsUsable};

@@ -5,7 +5,7 @@ use Rattle.std.proofs.lemmas.Bool.{false≢true}
 use Rattle.capture.proofs.GrowthLaws.{grows_from_itself, growth_goes_on}
 use Rattle.capture.specs.declared.book.Book.{Book}
 use Rattle.capture.specs.declared.captured.Taken.{Taken}
-use Rattle.cdxj_index.specs.Facts.{Facts}
+use Rattle.index_entry.specs.Facts.{Facts}
 use Rattle.disk_model.specs.Image.{Image}
 use Rattle.archive_shelf.proofs.StoringLaws.{leading_grows, leads_itself, stores_grow}
 use Rattle.archive_shelf.specs.Answers.{CountsIf, LeavesReading, StoreLeaves, is_store_fault}

@@ -14,11 +14,11 @@ use Rattle.capture.specs.declared.book.Volume.{Volume}
 use Rattle.capture.specs.declared.captured.Kept.{Kept}
 use Rattle.capture.specs.declared.captured.Kept.TheVariants.{Wire, Same, Cut}
 use Rattle.capture.specs.declared.captured.Stored.{Stored}
-use Rattle.cdxj_index.proofs.Entries.{Among-with_entry, Among-with_entry_back}
-use Rattle.cdxj_index.proofs.Members.{Among, among_from_contains, contains_from_among}
-use Rattle.cdxj_index.specs.Facts.{Facts}
-use Rattle.cdxj_index.specs.OfBook.{AreOf, IsBefore, IsEntryOf, IsFoundByDate, mime_by, record_of}
-use Rattle.cdxj_index.specs.Order.{with_entry}
+use Rattle.index_entry.proofs.Entries.{Among-with_entry, Among-with_entry_back}
+use Rattle.index_entry.proofs.Members.{Among, among_from_contains, contains_from_among}
+use Rattle.index_entry.specs.Facts.{Facts}
+use Rattle.index_entry.specs.OfBook.{AreOf, IsBefore, IsEntryOf, IsFoundByDate, mime_by, record_of}
+use Rattle.index_entry.specs.Order.{with_entry}
 use Rattle.surt_key.specs.Key.{key_of}
 use Rattle.warc_text.proofs.BookLaws.{get_behind}
 use Rattle.warc_text.specs.Books.{IsGroupText, IsVolumeText, RefersBy, joined}

@@ -11,8 +11,8 @@ use Rattle.capture.specs.declared.captured.Kept.{Kept}
 use Rattle.capture.specs.declared.captured.Kept.TheVariants.{Wire, Same, Cut}
 use Rattle.capture.specs.declared.captured.Stored.{Stored}
 use Rattle.capture.specs.declared.captured.Taken.{Taken}
-use Rattle.cdxj_index.specs.Facts.{Facts}
-use Rattle.cdxj_index.specs.OfBook.{IsEntryOf}
+use Rattle.index_entry.specs.Facts.{Facts}
+use Rattle.index_entry.specs.OfBook.{IsEntryOf}
 use Rattle.disk_model.specs.Image.{Image}
 use Rattle.time_text.specs.Texts.{InRange}
 use Rattle.warc_journal.specs.Extents.{cdxj_files}

@@ -5,8 +5,8 @@ use Rattle.capture.specs.Captures.{captures}
 use Rattle.capture.specs.Growth.{Grows}
 use Rattle.capture.specs.declared.book.Book.{Book}
 use Rattle.capture.specs.declared.limits.Limits.{Limits}
-use Rattle.cdxj_index.specs.Facts.{Facts}
-use Rattle.cdxj_index.specs.OfBook.{AreEntries, by_number}
+use Rattle.index_entry.specs.Facts.{Facts}
+use Rattle.index_entry.specs.OfBook.{AreEntries, by_number}
 use Rattle.warc_text.specs.Sound.{IsSound}
 
 -- Whether what the disk holds is told; the book that was seen last; the entries that are shown, by number; the numbers that

@@ -8,9 +8,9 @@ use Rattle.capture.specs.Growth.{Grows}
 use Rattle.capture.specs.Message.{IsResponseHeadText}
 use Rattle.capture.specs.declared.book.Book.{Book}
 use Rattle.capture.specs.declared.captured.Stored.{Stored}
-use Rattle.cdxj_index.specs.Facts.{Facts}
-use Rattle.cdxj_index.specs.OfBook.{AreOf, IsEntryOf, IsFoundByDate, mime_by, record_of}
-use Rattle.cdxj_index.specs.Order.{with_entry}
+use Rattle.index_entry.specs.Facts.{Facts}
+use Rattle.index_entry.specs.OfBook.{AreOf, IsEntryOf, IsFoundByDate, mime_by, record_of}
+use Rattle.index_entry.specs.Order.{with_entry}
 use Rattle.surt_key.specs.Key.{key_of}
 use Rattle.warc_text.specs.Books.{IsGroupText, IsVolumeText}
 use Rattle.archive_shelf.specs.Storing.{with_capture}

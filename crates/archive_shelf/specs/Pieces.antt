@@ -4,7 +4,7 @@ use Rattle.capture.specs.Captures.{captures, first_number}
 use Rattle.capture.specs.declared.book.Book.{Book}
 use Rattle.capture.specs.declared.book.Volume.{Volume}
 use Rattle.capture.specs.declared.captured.Taken.{Taken}
-use Rattle.cdxj_index.specs.Facts.{Facts}
+use Rattle.index_entry.specs.Facts.{Facts}
 use Rattle.warc_text.specs.Books.{IsGroupText}
 use Rattle.warc_text.specs.Records.{group_text, info_text}
 use Rattle.warc_text.specs.References.{Reference}

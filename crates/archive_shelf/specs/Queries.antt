@@ -1,9 +1,9 @@
 -- What is answered of the entries that are shown.
 use Rattle.std.specs.Prelude.{ℕ, Bool, IsTrue, List, Option, Some, None, Contains}
 use Rattle.std.specs.List.Sorted.{IsStrictlySortedBy}
-use Rattle.cdxj_index.specs.Facts.{Facts}
-use Rattle.cdxj_index.specs.Order.{order}
-use Rattle.cdxj_index.specs.Queries.{HasNone, IsNearest}
+use Rattle.index_entry.specs.Facts.{Facts}
+use Rattle.index_entry.specs.Order.{order}
+use Rattle.index_entry.specs.Queries.{HasNone, IsNearest}
 
 -- the entry of the key that is nearest to the time, the first in order of those that are as near; or the key has none
 -- (RFC 7089, section 4.1.1)

@@ -6,7 +6,7 @@ ghost use Rattle.archive_shelf.specs.Queries.{ArePicked, IsFound};
 ghost use Rattle.archive_shelf.specs.Told.{KnowsBook, LooksOn, Told};
 
 use capture::Memory;
-use cdxj_index::Entry;
+use index_entry::Entry;
 use std::alloc::Global;
 use surt_key::Key;
 

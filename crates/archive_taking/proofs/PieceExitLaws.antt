@@ -12,11 +12,11 @@ use Rattle.capture.specs.declared.book.Volume.{Volume}
 use Rattle.capture.specs.declared.captured.Kept.{Kept}
 use Rattle.capture.specs.declared.captured.Kept.TheVariants.{Wire, Same, Cut}
 use Rattle.capture.specs.declared.captured.Stored.{Stored}
-use Rattle.cdxj_index.proofs.Members.{Among, contains_from_among}
-use Rattle.cdxj_index.specs.Facts.{Facts}
-use Rattle.cdxj_index.specs.OfBook.{AreOf}
-use Rattle.cdxj_index.specs.Order.{with_entry, without}
-use Rattle.cdxj_index.specs.Queries.{IsIndex}
+use Rattle.index_entry.proofs.Members.{Among, contains_from_among}
+use Rattle.index_entry.specs.Facts.{Facts}
+use Rattle.index_entry.specs.OfBook.{AreOf}
+use Rattle.index_entry.specs.Order.{with_entry, without}
+use Rattle.index_entry.specs.Queries.{IsIndex}
 use Rattle.disk_model.specs.declared.disk.Disk.{Ghosts}
 use Rattle.httparse.specs.Grammar as grammar
 use Rattle.revisit_table.specs.Table.{Table}

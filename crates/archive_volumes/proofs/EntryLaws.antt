@@ -5,8 +5,8 @@ use Rattle.std.specs.Prelude.{IfOk}
 use Rattle.httparse.specs.Grammar.{ResponseHead, status_code}
 use Rattle.capture.specs.Fields.{named_values}
 use Rattle.capture.specs.declared.captured.Stored.{Stored}
-use Rattle.cdxj_index.specs.Facts.{Facts}
-use Rattle.cdxj_index.specs.OfBook.{mime_by}
+use Rattle.index_entry.specs.Facts.{Facts}
+use Rattle.index_entry.specs.OfBook.{mime_by}
 use Rattle.archive_volumes.specs.Entries.{EntersAs, IsToldAs, told_facts}
 use Rattle.archive_volumes.specs.declared.entry.RecordAt.{RecordAt}
 

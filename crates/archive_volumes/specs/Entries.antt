@@ -3,9 +3,9 @@ use Rattle.std.specs.Prelude.{◌≡◌, ◌≢◌, ℕ, Bool, List, codes, slic
 use Rattle.httparse.specs.Grammar.{ResponseHead, status_code}
 use Rattle.capture.specs.Fields.{named_values}
 use Rattle.capture.specs.declared.captured.Stored.{Stored}
-use Rattle.cdxj_index.specs.Facts.{Facts}
-use Rattle.cdxj_index.specs.OfBook.{mime_by}
-use Rattle.cdxj_index.specs.Order.{with_entry}
+use Rattle.index_entry.specs.Facts.{Facts}
+use Rattle.index_entry.specs.OfBook.{mime_by}
+use Rattle.index_entry.specs.Order.{with_entry}
 use Rattle.surt_key.specs.Key.{key_of}
 use Rattle.archive_volumes.specs.Spots.{form_of, is_same_form}
 use Rattle.archive_volumes.specs.declared.entry.RecordAt.{RecordAt}

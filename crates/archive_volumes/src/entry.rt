@@ -1,7 +1,7 @@
 //! The entry of a capture in the index.
 ghost use Rattle.std.specs.Prelude.{◌≡◌, ℕ, List, codes, map, slice_get, option_copied, IfOk, IfSome, Some, ◌-◌, length};
 ghost use Rattle.capture.specs.Fields.{named_values, values_of};
-ghost use Rattle.cdxj_index.specs.OfBook.{mime_by};
+ghost use Rattle.index_entry.specs.OfBook.{mime_by};
 ghost use Rattle.http_head.specs.Heads.{HoldsResponseParts, named_value};
 ghost use Rattle.httparse.specs.Grammar as grammar;
 ghost use Rattle.surt_key.specs.Key.{key_of as the_key_of};
@@ -20,10 +20,10 @@ ghost use Rattle.archive_volumes.specs.Volumes.{IsMeasured};
 use crate::ready::Ready;
 use crate::volumes::Volumes;
 use capture::{Digest, Kept, Memory, Stored, Text};
-use cdxj_index::Entry;
 use cdxj_line::{REVISIT, media_type};
 use disk_model::Disk;
 use http_head::{ResponseHead, WireFault, first_value, read_head};
+use index_entry::Entry;
 use short_text::ShortText;
 use std::alloc::Global;
 use surt_key::{Key, KeyFault, key_of, key_of_url};

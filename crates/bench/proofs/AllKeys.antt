@@ -1,7 +1,7 @@
 -- Every key begins with no bytes.
 use Rattle.std.proofs.Common.{◌≡◌, List, [], ◌∷◌, refl, ap}
-use Rattle.cdxj_index.specs.Facts.{Facts}
-use Rattle.cdxj_index.specs.Queries.{starting_with}
+use Rattle.index_entry.specs.Facts.{Facts}
+use Rattle.index_entry.specs.Queries.{starting_with}
 
 pub all_start : (entries : List Facts) → starting_with [] entries ≡ entries
 all_start [] = refl

@@ -1,9 +1,10 @@
 //! The index: what an entry takes in memory, and what adding it and looking it up costs.
 ghost use Rattle.std.specs.Prelude.{◌≡◌, ◌<◌, IfOk};
-ghost use Rattle.cdxj_index.specs.Queries.{IsIndex, starting_with};
+ghost use Rattle.index_entry.specs.Queries.{IsIndex, starting_with};
 
 use capture::Memory;
-use cdxj_index::{Entry, Index, Steps};
+use cdxj_index::{Index, Steps};
+use index_entry::Entry;
 use measuring::{Measured, NOON, Stopped, entry_of, resident, shuffled, url_of};
 use std::alloc::Global;
 use std::io::Print;

@@ -2,7 +2,7 @@
 use crate::copies::{print_rate, time_of_copy};
 use capture::Memory;
 use cdx_query::{Query, QueryFault, answer, read_query};
-use cdxj_index::Entry;
+use index_entry::Entry;
 use measuring::{Measured, Stopped, entry_of};
 use std::alloc::Global;
 use std::io::Print;

@@ -5,7 +5,7 @@ use archive_shelf::{BringFault, Finder, Shelf};
 use capture::{Brought, Memory, put_all};
 use case_language::{number_in, split_word};
 use case_texts::{key_in, put_next, put_next_number};
-use cdxj_index::Entry;
+use index_entry::Entry;
 use std::alloc::Global;
 use surt_key::Key;
 

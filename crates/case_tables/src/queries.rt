@@ -5,9 +5,10 @@ use capture::{Memory, Text, put_all, put_number};
 use case_language::{number_in, split_word};
 use case_texts::{always, put_next, put_next_number, told};
 use cdx_query::{MatchKind, Query, QueryFault, answer, read_query};
-use cdxj_index::{Entry, Index};
+use cdxj_index::Index;
 use cdxj_line::read_line;
 use digest32::{base32_of, payload_digest};
+use index_entry::Entry;
 use std::alloc::Global;
 use surt_key::Key;
 

@@ -2,8 +2,8 @@
 use Rattle.std.proofs.Common.{◌≡◌, ℕ, suc, ◌+◌, ◌-◌, ◌^◌, ◌<◌, Bool, true, false, List, [], ◌∷◌, ◌++◌, length, length-append, codes, refl, sym, ap, ◌∙◌, subst, inl, inr, arith}
 use Rattle.std.specs.Prelude.{All, min, if◌then◌else◌}
 use Rattle.std.proofs.lemmas.Bool.{cases_Bool, cases_eq, cond-true, cond-false}
-use Rattle.cdxj_index.specs.Facts.{Facts}
-use Rattle.cdxj_index.specs.OfLine.{line_at}
+use Rattle.index_entry.specs.Facts.{Facts}
+use Rattle.index_entry.specs.OfLine.{line_at}
 use Rattle.cdxj_line.specs.Lengths.{capped}
 use Rattle.cdxj_line.specs.Lines.{line_text, object_text}
 use Rattle.cdxj_line.specs.steps.Written.{first_members, further_member, last_members, member_text, number_members}

@@ -1,9 +1,9 @@
 -- A query has one answer from the entries that are shown.
 use Rattle.std.proofs.Common.{◌≡◌, List, sym, ap, ◌∙◌}
-use Rattle.cdxj_index.specs.Facts.{Facts}
-use Rattle.cdxj_index.specs.Order.{order}
-use Rattle.cdxj_index.proofs.Members.{Among, among_from_contains, contains_from_among, same_from_members}
-use Rattle.cdxj_index.proofs.Orders.{order_total}
+use Rattle.index_entry.specs.Facts.{Facts}
+use Rattle.index_entry.specs.Order.{order}
+use Rattle.index_entry.proofs.Members.{Among, among_from_contains, contains_from_among, same_from_members}
+use Rattle.index_entry.proofs.Orders.{order_total}
 use Rattle.cdx_query.specs.Answers.{AreMet, answer_text}
 use Rattle.cdx_query.specs.Laws.{QueriesHaveOneAnswer}
 use Rattle.cdx_query.specs.declared.query.Query.{Query}

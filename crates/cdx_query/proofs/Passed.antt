@@ -4,7 +4,7 @@ use Rattle.std.specs.Prelude.{filter, min}
 use Rattle.std.specs.List.{flat_map}
 use Rattle.std.proofs.lemmas.Bool.{cond-true, cond_both}
 use Rattle.std.proofs.lemmas.List.{append-nil, take_all}
-use Rattle.cdxj_index.specs.Facts.{Facts}
+use Rattle.index_entry.specs.Facts.{Facts}
 use Rattle.cdxj_line.specs.Lengths.{capped}
 use Rattle.cdx_query.specs.Answers.{answer_text, item_text}
 use Rattle.cdx_query.specs.Passing.{IsPartOf, rest_text}

@@ -2,10 +2,10 @@
 use Rattle.std.proofs.Common.{◌≡◌, ℕ, Bool, true, false, ◌&&◌, eqb, List, [], ◌∷◌, ◌++◌, length, drop, bytes_eq, codes, refl, sym, ap, ◌∙◌, subst, inl, inr}
 use Rattle.std.specs.Prelude.{filter}
 use Rattle.std.proofs.lemmas.Bool.{and_parts, false≢true, or_cases}
-use Rattle.cdxj_index.specs.Facts.{Facts}
-use Rattle.cdxj_index.specs.Order.{order}
-use Rattle.cdxj_index.proofs.Members.{Among-filter, Among-filter_back, Sorted-filter, among_from_contains, contains_from_among}
-use Rattle.cdxj_index.proofs.Orders.{order_total}
+use Rattle.index_entry.specs.Facts.{Facts}
+use Rattle.index_entry.specs.Order.{order}
+use Rattle.index_entry.proofs.Members.{Among-filter, Among-filter_back, Sorted-filter, among_from_contains, contains_from_among}
+use Rattle.index_entry.proofs.Orders.{order_total}
 use Rattle.cdx_query.specs.Answers.{AreMet, AreStarting}
 use Rattle.cdx_query.specs.Picking.{begins, host_of, is_from, is_match, is_to, meets, start_of}
 use Rattle.cdx_query.specs.declared.query.MatchKind.{MatchKind}

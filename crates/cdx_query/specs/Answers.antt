@@ -2,9 +2,9 @@
 use Rattle.std.specs.Prelude.{◌≡◌, ℕ, Bool, true, false, IsTrue, List, ◌++◌, codes, Contains}
 use Rattle.std.specs.List.{flat_map}
 use Rattle.std.specs.List.Sorted.{IsStrictlySortedBy}
-use Rattle.cdxj_index.specs.Facts.{Facts}
-use Rattle.cdxj_index.specs.OfLine.{line_at}
-use Rattle.cdxj_index.specs.Order.{order}
+use Rattle.index_entry.specs.Facts.{Facts}
+use Rattle.index_entry.specs.OfLine.{line_at}
+use Rattle.index_entry.specs.Order.{order}
 use Rattle.cdxj_line.specs.Lines.{line_text, object_text}
 use Rattle.cdx_query.specs.Picking.{begins, limited, meets}
 use Rattle.cdx_query.specs.declared.query.Query.{Query}

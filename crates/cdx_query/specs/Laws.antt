@@ -1,6 +1,6 @@
 -- What queries promise to those who answer them.
 use Rattle.std.specs.Prelude.{◌≡◌, ℕ, List}
-use Rattle.cdxj_index.specs.Facts.{Facts}
+use Rattle.index_entry.specs.Facts.{Facts}
 use Rattle.cdx_query.specs.Answers.{IsAnswer}
 use Rattle.cdx_query.specs.Reading.{IsQuery}
 use Rattle.cdx_query.specs.declared.query.Query.{Query}

@@ -1,7 +1,7 @@
 -- How an answer is composed in one pass over the entries.
 use Rattle.std.specs.Prelude.{◌≡◌, ℕ, ◌+◌, Bool, ◌||◌, ◌==◌, List, [], ◌∷◌, filter, length, take, if◌then◌else◌}
 use Rattle.std.specs.List.{flat_map}
-use Rattle.cdxj_index.specs.Facts.{Facts}
+use Rattle.index_entry.specs.Facts.{Facts}
 use Rattle.cdxj_line.specs.Lengths.{capped}
 use Rattle.cdx_query.specs.Answers.{item_text}
 use Rattle.cdx_query.specs.Picking.{meets}

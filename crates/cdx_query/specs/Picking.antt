@@ -3,7 +3,7 @@ use Rattle.std.specs.Prelude.{ℕ, Bool, true, not, ◌&&◌, ◌||◌, ◌==◌
 use Rattle.std.specs.Cmp.Lexicographic.{slice_cmp}
 use Rattle.std.specs.List.{take_while, starts_with}
 use Rattle.std.specs.Ordering.{nat_cmp, is_le}
-use Rattle.cdxj_index.specs.Facts.{Facts}
+use Rattle.index_entry.specs.Facts.{Facts}
 use Rattle.time_text.specs.Texts.{all_digits}
 use Rattle.cdx_query.specs.declared.query.MatchKind.{MatchKind}
 use Rattle.cdx_query.specs.declared.query.MatchKind.TheVariants.{Exact, Prefix, Host, Domain}

@@ -6,7 +6,7 @@ ghost use Rattle.cdx_query.specs.Picking as spec;
 use crate::read::host_len;
 use crate::{MatchKind, Query};
 use capture::Text;
-use cdxj_index::Entry;
+use index_entry::Entry;
 use time_text::{TimeText, write_digits};
 
 /// How many digits a date has, to the millisecond.

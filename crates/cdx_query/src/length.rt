@@ -1,6 +1,6 @@
 //! The length of an answer, told without writing it. Nothing here takes memory.
 ghost use Rattle.std.specs.Prelude.{◌≡◌, ◌<◌, ℕ, List, ◌∷◌, filter, length};
-ghost use Rattle.cdxj_index.specs.Facts.{Facts};
+ghost use Rattle.index_entry.specs.Facts.{Facts};
 ghost use Rattle.cdxj_line.specs.Lengths.{capped};
 ghost use Rattle.surt_key.specs.Spaces.{HoldsNoSpace};
 ghost use Rattle.cdx_query.specs.Answers.{answer_text, item_text};
@@ -11,8 +11,8 @@ ghost use Rattle.cdx_query.specs.Picking as spec;
 use crate::Query;
 use crate::filter::meets;
 use crate::put::{METHOD, most};
-use cdxj_index::Entry;
 use cdxj_line::line_len;
+use index_entry::Entry;
 use surt_key::keys_hold_no_space;
 use time_text::texts_have_no_blanks;
 

@@ -1,6 +1,6 @@
 //! The answer to a query.
 ghost use Rattle.std.specs.Prelude.{◌≡◌, ◌<◌, ◌∷◌, ◌++◌, List, filter, take, IfOk, OnOk};
-ghost use Rattle.cdxj_index.specs.Facts.{Facts};
+ghost use Rattle.index_entry.specs.Facts.{Facts};
 ghost use Rattle.cdx_query.specs.Answers.{AreStarting, IsAnswer, answer_text, item_text};
 ghost use Rattle.cdx_query.specs.Picking as spec;
 ghost use Rattle.cdx_query.specs.Passing.{rest_text};
@@ -10,8 +10,8 @@ use crate::Query;
 use crate::filter::meets;
 use crate::length::answer_len;
 use capture::{Bytes, Memory, put_all};
-use cdxj_index::Entry;
 use cdxj_line::{put_object, put_parts};
+use index_entry::Entry;
 use std::alloc::Global;
 
 /// The method of each capture that an index shows.

@@ -20,13 +20,13 @@ use Rattle.std.proofs.lemmas.Map.Lookups.{CmpEqualImpliesEq, exact_bytes}
 use Rattle.std.proofs.lemmas.Map.Made.{distinct_count-from_IsDistinct, keys_of-map_values, lookup-map_values, update_all_none}
 use Rattle.std.proofs.lemmas.Map.Views.{btree_map_len-from_list, lookup-from_Contains}
 use Rattle.std.proofs.lemmas.Option.{get_or_from_slice_get, slice_get_within}
-use Rattle.cdxj_index.specs.Facts.{Facts}
+use Rattle.index_entry.specs.Facts.{Facts}
 use Rattle.cdxj_index.specs.Groups.{AreGroups, Group}
 use Rattle.cdxj_index.specs.Maps.{AreKeys, AreMaps, AreNumbers, AreOfKey, Captures, Keys, Shared, by_numbers, entries_of, entry_of, numbered, shown_all, values_shown}
-use Rattle.cdxj_index.specs.Order.{order}
-use Rattle.cdxj_index.specs.Queries.{IsIndex}
-use Rattle.cdxj_index.proofs.Orders.{equal_from_is_eq, key_tied, order_total}
-use Rattle.cdxj_index.proofs.Members.{Among, Among-append_right, Among-map, Among-map_back, all_among, all_from_among, among_from_contains, contains_from_among, not_below_itself, same_from_members}
+use Rattle.index_entry.specs.Order.{order}
+use Rattle.index_entry.specs.Queries.{IsIndex}
+use Rattle.index_entry.proofs.Orders.{equal_from_is_eq, key_tied, order_total}
+use Rattle.index_entry.proofs.Members.{Among, Among-append_right, Among-map, Among-map_back, all_among, all_from_among, among_from_contains, contains_from_among, not_below_itself, same_from_members}
 use Rattle.cdxj_index.proofs.Numbers.{number_of_tie}
 use Rattle.cdxj_index.proofs.Places.{among-lookup, lookup-among}
 

@@ -7,13 +7,13 @@ use Rattle.std.specs.List.Sorted.{IsStrictlySortedBy}
 use Rattle.std.specs.Option.{option_map_or}
 use Rattle.std.specs.Ordering.{nat_cmp}
 use Rattle.std.proofs.lemmas.Slice.Eq.{bytes_eq-Decides}
-use Rattle.cdxj_index.specs.Facts.{Facts}
+use Rattle.index_entry.specs.Facts.{Facts}
 use Rattle.cdxj_index.specs.Maps.{AreKeys, AreMaps, AreNumbers, AreOfKey, Captures, HasNoneAfter, HasNoneFrom, HasNoneUntil, IsFirstAfter, IsFirstFrom, IsLastUntil, Keys, Puts, SameKeys, Shared, Takes, entries_of, entry_of, held, numbered, shown}
-use Rattle.cdxj_index.specs.Order.{Moment, moment_of, order, with_entry, without}
-use Rattle.cdxj_index.specs.Queries.{IsIndex, IsNearest, of_key, with_number}
-use Rattle.cdxj_index.proofs.Orders.{order_total}
-use Rattle.cdxj_index.proofs.Members.{Among, Among-filter, Among-filter_back, Sorted-filter, among_from_contains, contains_from_among, same_from_members}
-use Rattle.cdxj_index.proofs.Entries.{with_number-none, without-absent}
+use Rattle.index_entry.specs.Order.{Moment, moment_of, order, with_entry, without}
+use Rattle.index_entry.specs.Queries.{IsIndex, IsNearest, of_key, with_number}
+use Rattle.index_entry.proofs.Orders.{order_total}
+use Rattle.index_entry.proofs.Members.{Among, Among-filter, Among-filter_back, Sorted-filter, among_from_contains, contains_from_among, same_from_members}
+use Rattle.index_entry.proofs.Entries.{with_number-none, without-absent}
 use Rattle.cdxj_index.proofs.Held.{captures_at, entries_from_held_at, held_at_from_entries, held_from_shown, shown_from_held, sorted_entries, sorted_shown}
 use Rattle.cdxj_index.proofs.Changes.{entries_put, entries_same, entries_taken}
 use Rattle.cdxj_index.proofs.Numbers.{AreNumbers-put, AreNumbers-take, AreNumbers-undone, alone, numbered-is}

@@ -11,13 +11,13 @@ use Rattle.std.specs.Map.{keys_of, lookup}
 use Rattle.std.specs.Ordering.{nat_cmp, is_eq, ordering_reverse}
 use Rattle.std.proofs.lemmas.Bool.{and_parts}
 use Rattle.std.proofs.lemmas.Cmp.{nat_list_cmp_total, tied_itself}
-use Rattle.cdxj_index.specs.Facts.{Facts}
+use Rattle.index_entry.specs.Facts.{Facts}
 use Rattle.cdxj_index.specs.declared.entry_map.captures.Captures.TheVariants.{One, Many}
 use Rattle.cdxj_index.specs.Maps.{AreKeys, AreOfKey, Captures, Changes, HoldsOnly, HoldsSame, IsHeld, IsInOrder, Keys, Puts, SameKeys, Shared, Takes, entries_of, entry_of, held, held_at, is_place}
-use Rattle.cdxj_index.specs.Order.{Moment, moment_of, moment_cmp, order, with_entry, without}
-use Rattle.cdxj_index.proofs.Orders.{both_equal, equal_from_is_eq, key_tied, moment_tied, moment_total, order_total}
-use Rattle.cdxj_index.proofs.Members.{Among, same_from_members, Sorted-filter}
-use Rattle.cdxj_index.proofs.Entries.{Among-with_entry, Among-with_entry_back, Among-without, Among-without_back, InOrder-with_entry}
+use Rattle.index_entry.specs.Order.{Moment, moment_of, moment_cmp, order, with_entry, without}
+use Rattle.index_entry.proofs.Orders.{both_equal, equal_from_is_eq, key_tied, moment_tied, moment_total, order_total}
+use Rattle.index_entry.proofs.Members.{Among, same_from_members, Sorted-filter}
+use Rattle.index_entry.proofs.Entries.{Among-with_entry, Among-with_entry_back, Among-without, Among-without_back, InOrder-with_entry}
 use Rattle.cdxj_index.proofs.Held.{held_at_from_entries, entries_from_held_at, sorted_entries}
 
 -- ---- places

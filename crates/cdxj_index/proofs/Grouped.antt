@@ -8,13 +8,13 @@ use Rattle.std.specs.List.Sorted.{IsStrictlySortedBy}
 use Rattle.std.specs.Map.{keys_of}
 use Rattle.std.specs.Ordering.{nat_cmp, is_eq, ordering_then}
 use Rattle.std.proofs.lemmas.Cmp.{nat_list_cmp_total, tied_itself}
-use Rattle.cdxj_index.specs.Facts.{Facts}
+use Rattle.index_entry.specs.Facts.{Facts}
 use Rattle.cdxj_index.specs.declared.entry_map.captures.Captures.TheVariants.{One}
 use Rattle.cdxj_index.specs.Groups.{AreGroups, Group, IsGroup}
 use Rattle.cdxj_index.specs.Maps.{AreOfKey, Captures, Changes, IsHeld, IsInOrder, Shared, entry_of, held, shown, shown_all}
-use Rattle.cdxj_index.specs.Order.{Moment, moment_of, moment_cmp, order}
-use Rattle.cdxj_index.proofs.Orders.{equal_from_is_eq, key_tied, moment_tied, moment_total, order_total}
-use Rattle.cdxj_index.proofs.Members.{Among, Among-append, Among-append_left, Among-append_right, Among-flat_map_back, Among-map_back, Sorted-append, all_among, among_from_contains, contains_from_among, not_below_itself, same_from_members}
+use Rattle.index_entry.specs.Order.{Moment, moment_of, moment_cmp, order}
+use Rattle.index_entry.proofs.Orders.{equal_from_is_eq, key_tied, moment_tied, moment_total, order_total}
+use Rattle.index_entry.proofs.Members.{Among, Among-append, Among-append_left, Among-append_right, Among-flat_map_back, Among-map_back, Sorted-append, all_among, among_from_contains, contains_from_among, not_below_itself, same_from_members}
 use Rattle.cdxj_index.proofs.Held.{held_from_shown, shown_from_held, sorted_shown}
 use Rattle.cdxj_index.proofs.Changes.{AreOfKey-put, AreOfKey-one}
 

@@ -8,11 +8,11 @@ use Rattle.std.specs.List.Sorted.{IsStrictlySortedBy}
 use Rattle.std.specs.Map.{keys_of, lookup, values_of}
 use Rattle.std.specs.Ordering.{nat_cmp, ordering_then}
 use Rattle.std.proofs.lemmas.Cmp.{nat_list_cmp_total, tied_itself}
-use Rattle.cdxj_index.specs.Facts.{Facts}
+use Rattle.index_entry.specs.Facts.{Facts}
 use Rattle.cdxj_index.specs.Maps.{AreKeys, AreOfKey, Captures, IsHeld, Keys, Shared, entries_of, entry_of, held, held_at, placed, shown, shown_all}
-use Rattle.cdxj_index.specs.Order.{Moment, moment_of, moment_cmp, order}
-use Rattle.cdxj_index.proofs.Orders.{moment_total, order_total}
-use Rattle.cdxj_index.proofs.Members.{Among, Among-map, Among-map_back, Among-flat_map, Among-flat_map_back, Sorted-append, all_among, all_from_among}
+use Rattle.index_entry.specs.Order.{Moment, moment_of, moment_cmp, order}
+use Rattle.index_entry.proofs.Orders.{moment_total, order_total}
+use Rattle.index_entry.proofs.Members.{Among, Among-map, Among-map_back, Among-flat_map, Among-flat_map_back, Sorted-append, all_among, all_from_among}
 use Rattle.cdxj_index.proofs.Places.{lookup-among, among-lookup}
 
 -- ---- the captures of a key

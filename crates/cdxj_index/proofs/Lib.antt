@@ -1,14 +1,10 @@
 pub mod Built
 pub mod Calls
 pub mod Changes
-pub mod Entries
 pub mod Grouped
 pub mod Held
-pub mod Members
 pub mod Nearest
 pub mod Numbers
-pub mod OneIndex
-pub mod Orders
 pub mod Places
 pub mod Sides
 pub mod Starts

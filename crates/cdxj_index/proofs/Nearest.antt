@@ -7,11 +7,11 @@ use Rattle.std.specs.BTreeMap.{get}
 use Rattle.std.specs.Cmp.Lexicographic.{slice_cmp}
 use Rattle.std.specs.Ordering.{nat_cmp, is_lt, ordering_then}
 use Rattle.std.proofs.lemmas.Cmp.{ranked, nat_list_cmp_total, tied_itself}
-use Rattle.cdxj_index.specs.Facts.{Facts}
+use Rattle.index_entry.specs.Facts.{Facts}
 use Rattle.cdxj_index.specs.Maps.{AreKeys, AreOfKey, Captures, HasNoneAfter, HasNoneUntil, IsFirstAfter, IsFirstFrom, IsLastUntil, Keys, entries_of, held, held_at}
-use Rattle.cdxj_index.specs.Order.{Moment, moment_of, moment_cmp, order, comes_before}
-use Rattle.cdxj_index.specs.Queries.{HasNone, IsNearest}
-use Rattle.cdxj_index.proofs.Members.{among_from_contains, contains_from_among}
+use Rattle.index_entry.specs.Order.{Moment, moment_of, moment_cmp, order, comes_before}
+use Rattle.index_entry.specs.Queries.{HasNone, IsNearest}
+use Rattle.index_entry.proofs.Members.{among_from_contains, contains_from_among}
 use Rattle.cdxj_index.proofs.Held.{captures_at, entries_from_held_at, held_at_from_entries}
 
 -- the entries of a key are those of its captures

@@ -6,13 +6,13 @@ use Rattle.std.specs.BTreeMap.{BTreeMap, Updates, btree_map_len, get}
 use Rattle.std.specs.List.Sorted.{IsStrictlySortedBy}
 use Rattle.std.specs.Ordering.{nat_cmp, is_eq}
 use Rattle.std.proofs.lemmas.Cmp.{ranked, nat_cmp_total, tied_itself}
-use Rattle.cdxj_index.specs.Facts.{Facts}
+use Rattle.index_entry.specs.Facts.{Facts}
 use Rattle.cdxj_index.specs.Maps.{AreNumbers, Shared, entry_of, numbered}
-use Rattle.cdxj_index.specs.Order.{order, with_entry, without}
-use Rattle.cdxj_index.specs.Queries.{with_number}
-use Rattle.cdxj_index.proofs.Orders.{equal_from_is_eq, order_total}
-use Rattle.cdxj_index.proofs.Members.{Among, among_from_contains, contains_from_among, all_among, not_below_itself}
-use Rattle.cdxj_index.proofs.Entries.{InOrder, Among-with_entry, Among-with_entry_back, Among-without, Among-without_back, length-with_entry, with_number-some, with_number-none, without-absent}
+use Rattle.index_entry.specs.Order.{order, with_entry, without}
+use Rattle.index_entry.specs.Queries.{with_number}
+use Rattle.index_entry.proofs.Orders.{equal_from_is_eq, order_total}
+use Rattle.index_entry.proofs.Members.{Among, among_from_contains, contains_from_among, all_among, not_below_itself}
+use Rattle.index_entry.proofs.Entries.{InOrder, Among-with_entry, Among-with_entry_back, Among-without, Among-without_back, length-with_entry, with_number-some, with_number-none, without-absent}
 
 pub number_of_tie : (a b : ℕ) → is_eq (nat_cmp a b) ≡ true → a ≡ b
 number_of_tie a b tied = ranked a b Equal (sym (equal_from_is_eq (nat_cmp a b) tied))

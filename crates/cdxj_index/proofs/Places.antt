@@ -8,7 +8,7 @@ use Rattle.std.specs.List.Sorted.{IsStrictlySortedBy}
 use Rattle.std.specs.Map.{keys_of, lookup}
 use Rattle.std.specs.Ordering.{is_eq, ordering_reverse}
 use Rattle.std.proofs.lemmas.Cmp.{tied_itself}
-use Rattle.cdxj_index.proofs.Members.{Among, all_among, Among-map_back}
+use Rattle.index_entry.proofs.Members.{Among, all_among, Among-map_back}
 
 module _ {K X : Type 0} (R : K → K → Ordering) (o : IsTotalOrder R) where
   at_head : (b : Bool) (v : X) (rest : Option X) → b ≡ true → cond b (Some v) rest ≡ Some v

@@ -9,9 +9,9 @@ use Rattle.std.specs.Ordering.{is_eq, is_gt, is_lt, nat_cmp, ordering_reverse, o
 use Rattle.std.proofs.lemmas.Cmp.{ranked, tied_itself}
 use Rattle.cdxj_index.specs.declared.entry_map.captures.Captures.TheVariants.{One, Many}
 use Rattle.cdxj_index.specs.Maps.{HasNoneAfter, HasNoneFrom, HasNoneUntil, IsFirstAfter, IsFirstFrom, IsLastUntil, Shared, entry_of, held}
-use Rattle.cdxj_index.specs.Order.{Moment, moment_of, moment_cmp}
-use Rattle.cdxj_index.proofs.Orders.{equal_from_is_eq, moment_tied, moment_total}
-use Rattle.cdxj_index.proofs.Members.{not_below_itself}
+use Rattle.index_entry.specs.Order.{Moment, moment_of, moment_cmp}
+use Rattle.index_entry.proofs.Orders.{equal_from_is_eq, moment_tied, moment_total}
+use Rattle.index_entry.proofs.Members.{not_below_itself}
 use Rattle.cdxj_index.proofs.Changes.{held_of_one}
 
 -- several captures of a key

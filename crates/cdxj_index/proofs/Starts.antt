@@ -14,12 +14,12 @@ use Rattle.std.proofs.lemmas.Bool.{and_parts}
 use Rattle.std.proofs.lemmas.Bool.Decides.{Decides-eqb}
 use Rattle.std.proofs.lemmas.Cmp.{nat_cmp_total, nat_list_cmp_total, ranked, tied_itself}
 use Rattle.std.proofs.lemmas.Slice.Eq.{bytes_eq-Decides, starts_is}
-use Rattle.cdxj_index.specs.Facts.{Facts}
+use Rattle.index_entry.specs.Facts.{Facts}
 use Rattle.cdxj_index.specs.Maps.{AreKeys, AreOfKey, Captures, Keys, entries_of, keys_left, shown, shown_all, shown_while}
-use Rattle.cdxj_index.specs.Order.{order}
-use Rattle.cdxj_index.specs.Queries.{starting_with}
-use Rattle.cdxj_index.proofs.Orders.{order_total}
-use Rattle.cdxj_index.proofs.Members.{Among, Among-append, Among-append_left, Among-append_right, Among-filter, Among-filter_back, Among-flat_map, Among-flat_map_back, Among-map_back, Sorted-append, Sorted-filter, all_among, same_from_members}
+use Rattle.index_entry.specs.Order.{order}
+use Rattle.index_entry.specs.Queries.{starting_with}
+use Rattle.index_entry.proofs.Orders.{order_total}
+use Rattle.index_entry.proofs.Members.{Among, Among-append, Among-append_left, Among-append_right, Among-filter, Among-filter_back, Among-flat_map, Among-flat_map_back, Among-map_back, Sorted-append, Sorted-filter, all_among, same_from_members}
 use Rattle.cdxj_index.proofs.Held.{are_among, held_from_shown, key_below, sorted_entries, sorted_shown}
 
 -- ---- bytes that begin with bytes

@@ -10,8 +10,8 @@ use Rattle.std.specs.Option.{option_map_or}
 use Rattle.std.specs.Ordering.{nat_cmp, is_eq}
 pub use Rattle.cdxj_index.specs.declared.entry_map.captures.Captures.{Captures}
 use Rattle.cdxj_index.specs.declared.entry_map.captures.Captures.TheVariants.{One, Many}
-use Rattle.cdxj_index.specs.Facts.{Facts}
-use Rattle.cdxj_index.specs.Order.{Moment, moment_of, moment_cmp}
+use Rattle.index_entry.specs.Facts.{Facts}
+use Rattle.index_entry.specs.Order.{Moment, moment_of, moment_cmp}
 pub use Rattle.cdxj_index.specs.Sharing.{Shared, entry_of}
 
 -- the captures of each key

@@ -3,7 +3,7 @@ use Rattle.std.specs.Arc.{arc_value}
 use Rattle.cdxj_index.specs.declared.shared.Kept.{Kept}
 use Rattle.cdxj_index.specs.declared.shared.Kept.TheVariants.{Alone, Among}
 pub use Rattle.cdxj_index.specs.declared.shared.Shared.{Shared}
-use Rattle.cdxj_index.specs.Facts.{Facts}
+use Rattle.index_entry.specs.Facts.{Facts}
 
 -- the entry that stands by itself or among others
 abbrev pub entry_at : Kept → Facts

@@ -4,7 +4,7 @@ ghost use Rattle.std.specs.BTreeMap.{IsFromIterResult, get};
 ghost use Rattle.std.specs.Cmp.Lexicographic.{slice_cmp};
 ghost use Rattle.std.specs.Ordering.{nat_cmp};
 ghost use Rattle.cdxj_index.specs.Maps.{AreKeys, HasNoneAfter, HasNoneFrom, HasNoneUntil, IsFirstAfter, IsFirstFrom, IsLastUntil, Puts, SameKeys, Takes, entries_of, entry_of};
-ghost use Rattle.cdxj_index.specs.Queries.{of_key, starting_with};
+ghost use Rattle.index_entry.specs.Queries.{of_key, starting_with};
 
 mod captures;
 mod groups;
@@ -12,11 +12,12 @@ mod iterators;
 mod many;
 mod only;
 
+use crate::Steps;
 use crate::shared::Shared;
-use crate::{Entry, Steps};
 use capture::Memory;
 use captures::Captures;
 pub(crate) use groups::{Group, append};
+use index_entry::{Entry, Moment};
 pub use iterators::{Range, Starting};
 use many::{first_of, last_of, next_of};
 use only::{only_after, only_from, only_until};
@@ -24,9 +25,6 @@ use std::alloc::Global;
 use std::collections::BTreeMap;
 use std::sync::ledger::Ledger;
 use surt_key::Key;
-
-/// A date, and a number within the date.
-pub(crate) type Moment = (u64, u32);
 
 /// Entries by key, and under each key by date and number, so that no look-up copies a key.
 ///

@@ -1,18 +1,18 @@
 //! The index.
 ghost use Rattle.std.specs.Prelude.{◌≡◌, ◌↔◌, ◌+◌, ◌≤◌, [], ◌∷◌, ◌++◌, length, Contains, None, IsTrue, IfOk, OnOk, OnErr, IfSome, IfNone, option_copied};
 ghost use Rattle.std.specs.declared.cmp.Ordering.TheVariants.{Less};
-ghost use Rattle.cdxj_index.specs.Facts.{Facts};
+ghost use Rattle.index_entry.specs.Facts.{Facts};
 ghost use Rattle.cdxj_index.specs.Groups.{AreGroups};
 ghost use Rattle.cdxj_index.specs.Maps.{by_numbers, entry_of, shown_all, values_shown};
-ghost use Rattle.cdxj_index.specs.Order.{order, with_entry, without};
-ghost use Rattle.cdxj_index.specs.Queries.{HasNone, IsIndex, IsNearest, of_key, starting_with, with_number};
+ghost use Rattle.index_entry.specs.Order.{order, with_entry, without};
+ghost use Rattle.index_entry.specs.Queries.{HasNone, IsIndex, IsNearest, of_key, starting_with, with_number};
 
-use crate::entry::number_of;
 use crate::entry_map::{EntryMap, Group, append, first_after, first_from, last_until};
 use crate::settle::{Numbered, settle};
 use crate::shared::Shared;
-use crate::{Entry, Range, SharedEntry, Starting, Steps};
+use crate::{Range, SharedEntry, Starting, Steps};
 use capture::Memory;
+use index_entry::{Entry, number_of};
 use std::alloc::Global;
 use std::collections::BTreeMap;
 use std::marker::Model;
@@ -31,7 +31,7 @@ pub struct Index {
 
 impl Model for Index {
     ghost use Rattle.std.specs.Prelude.{List};
-    ghost use Rattle.cdxj_index.specs.Facts.{Facts};
+    ghost use Rattle.index_entry.specs.Facts.{Facts};
     ghost use Rattle.cdxj_index.specs.Maps.{AreMaps, entries_of};
 
     ghost Value = { List Facts };

@@ -1,19 +1,15 @@
 //! The index of an archive: its captures by look-up key, date and number.
 #![tactic(auto)]
 
-mod entry;
 mod entry_map;
 mod index;
-mod laws;
 mod ranks;
 mod settle;
 mod shared;
 mod shared_entry;
 mod steps;
 
-pub use entry::Entry;
 pub use entry_map::{Range, Starting};
 pub use index::Index;
-pub use laws::books_have_one_index;
 pub use shared_entry::SharedEntry;
 pub use steps::Steps;

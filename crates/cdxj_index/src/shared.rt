@@ -3,8 +3,8 @@ ghost use Rattle.std.specs.Prelude.{◌≡◌, ◌<◌, Some, length, slice_get,
 ghost use Rattle.std.specs.Arc.{arc_value};
 ghost use Rattle.cdxj_index.specs.Sharing.{entry_of};
 
-use crate::Entry;
 use capture::Memory;
+use index_entry::Entry;
 use std::alloc::Global;
 use std::marker::Model;
 use std::sync::Arc;
@@ -32,7 +32,7 @@ pub(crate) struct Placed {
 impl Model for Placed {
     ghost use Rattle.std.specs.Arc.{arc_value};
     ghost use Rattle.std.specs.Prelude.{◌<◌, length, slice_index_or};
-    ghost use Rattle.cdxj_index.specs.Facts.{Facts, past_end};
+    ghost use Rattle.index_entry.specs.Facts.{Facts, past_end};
 
     ghost Value = { Facts };
 

@@ -2,9 +2,9 @@
 ghost use Rattle.std.specs.Prelude.{◌≡◌, IfOk};
 ghost use Rattle.cdxj_index.specs.Sharing.{entry_of};
 
-use crate::Entry;
 use crate::shared::Shared;
 use capture::Memory;
+use index_entry::Entry;
 use std::alloc::Global;
 use std::marker::Model;
 
@@ -15,7 +15,7 @@ pub struct SharedEntry {
 }
 
 impl Model for SharedEntry {
-    ghost use Rattle.cdxj_index.specs.Facts.{Facts};
+    ghost use Rattle.index_entry.specs.Facts.{Facts};
     ghost use Rattle.cdxj_index.specs.Sharing.{entry_of};
 
     ghost Value = { Facts };

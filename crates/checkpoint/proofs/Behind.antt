@@ -11,8 +11,8 @@ use Rattle.std.proofs.lemmas.Cmp.{on_total}
 use Rattle.std.proofs.lemmas.List.Elements.{All-append, All-cons, All-nil}
 use Rattle.std.proofs.lemmas.Option.{same_Some}
 use Rattle.cdxj_line.specs.declared.line.Line.{Line}
-use Rattle.cdxj_index.specs.OfLine.{facts_of}
-use Rattle.cdxj_index.proofs.Orders.{order_total}
+use Rattle.index_entry.specs.OfLine.{facts_of}
+use Rattle.index_entry.proofs.Orders.{order_total}
 use Rattle.checkpoint.specs.Checkpoints.{line_order}
 use Rattle.checkpoint.specs.steps.Lines.{is_behind}
 

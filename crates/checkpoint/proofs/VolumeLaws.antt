@@ -9,9 +9,9 @@ use Rattle.capture.specs.declared.book.Book.{Book}
 use Rattle.capture.specs.declared.captured.Stored.{Stored}
 use Rattle.warc_text.specs.Growth.{NumbersHaveOneGroup}
 use Rattle.cdxj_line.specs.declared.line.Line.{Line}
-use Rattle.cdxj_index.specs.OfLine.{facts_of}
-use Rattle.cdxj_index.proofs.Members.{Among, among_from_contains, contains_from_among, same_from_members}
-use Rattle.cdxj_index.proofs.OneIndex.{one_entry}
+use Rattle.index_entry.specs.OfLine.{facts_of}
+use Rattle.index_entry.proofs.Members.{Among, among_from_contains, contains_from_among, same_from_members}
+use Rattle.index_entry.proofs.OneIndex.{one_entry}
 use Rattle.archive_shelf.proofs.EntryLaws.{entries_stay, first_stays}
 use Rattle.checkpoint.specs.Checkpoints.{line_order}
 use Rattle.checkpoint.specs.OfVolume.{AreLinesOf, IsLineOf, SealedLinesStay, VolumesHaveOneListOfLines}

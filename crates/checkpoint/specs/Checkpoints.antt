@@ -7,8 +7,8 @@ use Rattle.disk_model.specs.Image.{Image, file_of}
 use Rattle.disk_model.specs.declared.kind.Kind.TheVariants.{Cdxj}
 use Rattle.cdxj_line.specs.Lines.{HasTypes, IsWritable, line_text}
 use Rattle.cdxj_line.specs.declared.line.Line.{Line}
-use Rattle.cdxj_index.specs.OfLine.{facts_of}
-use Rattle.cdxj_index.specs.Order.{order}
+use Rattle.index_entry.specs.OfLine.{facts_of}
+use Rattle.index_entry.specs.Order.{order}
 
 -- lines by the bytes of their keys, then by date, then by number
 abbrev pub line_order : Line → Line → Ordering

@@ -8,8 +8,8 @@ use Rattle.capture.specs.declared.book.Volume.{Volume}
 use Rattle.capture.specs.declared.captured.Stored.{Stored}
 use Rattle.disk_model.specs.Image.{Image}
 use Rattle.cdxj_line.specs.declared.line.Line.{Line}
-use Rattle.cdxj_index.specs.OfBook.{IsEntryOf}
-use Rattle.cdxj_index.specs.OfLine.{facts_of}
+use Rattle.index_entry.specs.OfBook.{IsEntryOf}
+use Rattle.index_entry.specs.OfLine.{facts_of}
 use Rattle.checkpoint.specs.Checkpoints.{IsCheckpoint, checkpoint_of, line_order}
 
 -- the line is that of the capture with this number, whatever its method and status: it tells its entry, and its method

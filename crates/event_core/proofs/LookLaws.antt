@@ -7,8 +7,8 @@ use Rattle.capture.specs.declared.book.Book.{Book}
 use Rattle.capture.specs.declared.captured.Brought.{Brought}
 use Rattle.capture.specs.declared.limits.Limits.{Limits}
 use Rattle.capture.specs.declared.memory.Memory.{Memory}
-use Rattle.cdxj_index.specs.Facts.{Facts}
-use Rattle.cdxj_index.specs.OfBook.{AreEntries}
+use Rattle.index_entry.specs.Facts.{Facts}
+use Rattle.index_entry.specs.OfBook.{AreEntries}
 use Rattle.archive_shelf.specs.Answers.{Brings, IsBrought}
 use Rattle.archive_shelf.specs.Contents.{Contents, Looks, Stays}
 use Rattle.archive_shelf.specs.Openings.{IsEarlier, Keeps}

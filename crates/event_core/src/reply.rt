@@ -1,8 +1,8 @@
 //! What an event answers.
 use archive_shelf::{BringFault, Counts, Receipt, RollFault, StoreFault};
 use capture::{Brought, Items, Memory};
-use cdxj_index::Entry;
 use checkpoint::CheckpointFault;
+use index_entry::Entry;
 
 /// Why an event was refused.
 #[derive(Clone, Copy)]

@@ -2,7 +2,7 @@
 use Rattle.std.proofs.Common.{◌≡◌, List, [], ◌∷◌, ◌++◌, fold, refl, sym, ap, subst, ◌∙◌}
 use Rattle.std.specs.Prelude.{option_to_list}
 use Rattle.std.proofs.lemmas.List.{append-nil}
-use Rattle.cdxj_index.specs.Facts.{Facts}
+use Rattle.index_entry.specs.Facts.{Facts}
 use Rattle.index_snapshot.specs.Edges.{Edge, with_item}
 use Rattle.index_snapshot.specs.Entries.{IsNew, absorbed, entries_in}
 use Rattle.index_snapshot.specs.Listings.{IsOf}

@@ -4,9 +4,9 @@ use Rattle.std.specs.Prelude.{option_to_list}
 use Rattle.std.specs.Option.{option_map_or}
 use Rattle.std.proofs.lemmas.Bool.Decides.{nat_tests}
 use Rattle.std.proofs.lemmas.List.{append-nil, append_assoc}
-use Rattle.cdxj_index.specs.Facts.{Facts}
-use Rattle.cdxj_index.specs.Order.{comes_before, with_entry}
-use Rattle.cdxj_index.specs.Queries.{with_number}
+use Rattle.index_entry.specs.Facts.{Facts}
+use Rattle.index_entry.specs.Order.{comes_before, with_entry}
+use Rattle.index_entry.specs.Queries.{with_number}
 use Rattle.index_snapshot.specs.Entries.{HasEntries, IsNew, absorbed, entries_in}
 
 -- ---- an entry more in an index

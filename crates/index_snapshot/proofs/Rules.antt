@@ -5,7 +5,7 @@ use lib.ListN.{get_elem?}
 use Rattle.left_right.specs.Register.{Admits, TurnsAt, Forks, Merges}
 use Rattle.atomic_table.proofs.Lists.{at_set, at_snoc}
 use Rattle.logbook.specs.Pages.{Book}
-use Rattle.cdxj_index.specs.Facts.{Facts}
+use Rattle.index_entry.specs.Facts.{Facts}
 use Rattle.index_snapshot.specs.Edges.{Edge}
 use Rattle.index_snapshot.specs.Listings.{AllOf, Holds, IsOf, IsTied, Sees, Begins}
 use Rattle.index_snapshot.specs.declared.listing.Listing.{Listing}

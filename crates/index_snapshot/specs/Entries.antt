@@ -1,9 +1,9 @@
 -- The entries that a list's items bring, as an index has them.
 use Rattle.std.specs.Prelude.{◌≡◌, ℕ, List, [], ◌∷◌, ◌++◌, Option, Some, None, IfSome}
 use Rattle.std.specs.Option.{option_map_or}
-use Rattle.cdxj_index.specs.Facts.{Facts}
-use Rattle.cdxj_index.specs.Order.{with_entry}
-use Rattle.cdxj_index.specs.Queries.{with_number}
+use Rattle.index_entry.specs.Facts.{Facts}
+use Rattle.index_entry.specs.Order.{with_entry}
+use Rattle.index_entry.specs.Queries.{with_number}
 
 -- the entries that the items bring, in the items' order
 abbrev pub entries_in : {E : Type 0} → (E → List Facts) → List E → List Facts

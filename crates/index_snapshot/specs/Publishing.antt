@@ -1,7 +1,7 @@
 -- What a publisher keeps.
 use Rattle.std.specs.Prelude.{◌≡◌, List, ◌++◌, fold, Option, option_to_list}
 use Rattle.logbook.specs.Pages.{Book, Named}
-use Rattle.cdxj_index.specs.Facts.{Facts}
+use Rattle.index_entry.specs.Facts.{Facts}
 use Rattle.index_snapshot.specs.Edges.{Edge, head_of}
 use Rattle.index_snapshot.specs.Entries.{absorbed}
 use Rattle.index_snapshot.specs.Listings.{IsOf, IsTied, Names}

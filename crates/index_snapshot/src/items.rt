@@ -1,6 +1,6 @@
 //! The items of a list that is published.
 ghost use Rattle.std.specs.Prelude.{List};
-ghost use Rattle.cdxj_index.specs.Facts.{Facts};
+ghost use Rattle.index_entry.specs.Facts.{Facts};
 
 /// What the items of a list bring into its index, and which lists may be published. Only clauses know of it.
 pub trait Brings<E> {

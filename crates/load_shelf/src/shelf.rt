@@ -7,7 +7,7 @@ ghost use Rattle.load_shelf.specs.Loads.{IsFilled};
 
 use archive_shelf::{BringFault, Finder, Receipt, Shelf, StoreFault};
 use capture::{Brought, Bytes, Memory, Taken};
-use cdxj_index::Entry;
+use index_entry::Entry;
 use load_maker::{check_brought, check_taken};
 use std::alloc::Global;
 use std::marker::Model;

@@ -2,7 +2,7 @@
 ghost use Rattle.std.specs.Prelude.{◌≡◌, IfOk};
 
 use capture::{Memory, Text};
-use cdxj_index::Entry;
+use index_entry::Entry;
 use short_text::ShortText;
 use std::alloc::Global;
 use surt_key::{KeyFault, key_of};

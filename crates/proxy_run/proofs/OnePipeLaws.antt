@@ -5,7 +5,7 @@ use Rattle.archive_shelf.specs.Contents.{Contents}
 use Rattle.archive_shelf.specs.Openings.{SameBook}
 use Rattle.capture.specs.declared.book.Book.{Book}
 use Rattle.capture.specs.declared.site.Site.{Site}
-use Rattle.cdxj_index.specs.OfBook.{AreEntries, BooksHaveOneListOfEntries}
+use Rattle.index_entry.specs.OfBook.{AreEntries, BooksHaveOneListOfEntries}
 use Rattle.disk_model.specs.declared.disk.Disk.{Ghosts as Disks}
 use Rattle.outside.specs.Records.{Links}
 use Rattle.outside.specs.declared.dialer.Transcript.{Transcript}

@@ -7,8 +7,8 @@ ghost use Rattle.proxy_run.specs.Verified.{VerifiesAreAnswered};
 ghost use Rattle.verifying.specs.Verified.{SoundVolumesVerify, VolumesVerifyOneWay};
 
 use archive_settling::settling_keeps_checkpoints_right;
-use cdxj_index::books_have_one_index;
 use disk_model::Disk;
+use index_entry::books_have_one_index;
 use outside::{Clock, Dialer, Gate, Sink};
 use session::{courses_leave_no_choice, courses_only_grow};
 use verifying::sound_volumes_verify;

@@ -18,8 +18,8 @@ use Rattle.capture.specs.declared.refusal.Refusal.TheVariants.{NoCapture}
 use Rattle.cdx_query.specs.Answers.{AreStarting, IsAnswer}
 use Rattle.cdx_query.specs.Picking.{start_of}
 use Rattle.cdx_query.specs.declared.query.Query.{Query}
-use Rattle.cdxj_index.specs.Facts.{Facts}
-use Rattle.cdxj_index.specs.Queries.{HasNone}
+use Rattle.index_entry.specs.Facts.{Facts}
+use Rattle.index_entry.specs.Queries.{HasNone}
 use Rattle.surt_key.specs.Key.{key_of}
 use Rattle.request_answer.specs.steps.Making.{terms_at}
 use Rattle.request_answer.specs.steps.Answering.{AnswersVisit}

@@ -15,7 +15,7 @@ use Rattle.archive_shelf.specs.declared.fault.BringFault.TheVariants as brings
 use Rattle.capture.specs.Faults.{Rose}
 use Rattle.capture.specs.declared.refusal.Refusal.{Refusal}
 use Rattle.capture.specs.declared.refusal.Refusal.TheVariants.{NoSuch, DiskFault, Damaged}
-use Rattle.cdxj_index.specs.Facts.{Facts}
+use Rattle.index_entry.specs.Facts.{Facts}
 use Rattle.exchange.specs.Refusals.{refusal_text, memory_text}
 use Rattle.exchange.specs.declared.aim.Aim.TheVariants.{Site as ToSite}
 use Rattle.outside.specs.Records.{Links}

@@ -15,9 +15,9 @@ use Rattle.capture.specs.declared.captured.Kept.TheVariants.{Same}
 use Rattle.cdx_query.specs.Answers.{IsAnswer}
 use Rattle.cdx_query.specs.Reading.{IsQuery}
 use Rattle.cdx_query.specs.declared.query.Query.{Query}
-use Rattle.cdxj_index.specs.Facts.{Facts}
-use Rattle.cdxj_index.specs.OfBook.{IsEntryOf}
-use Rattle.cdxj_index.specs.Queries.{HasNone, IsNearest}
+use Rattle.index_entry.specs.Facts.{Facts}
+use Rattle.index_entry.specs.OfBook.{IsEntryOf}
+use Rattle.index_entry.specs.Queries.{HasNone, IsNearest}
 use Rattle.head_lines.specs.Lines.{own_status_line, type_line, head_end, body_unless}
 use Rattle.head_lines.specs.declared.status.Status.TheVariants as status
 use Rattle.http_head.specs.Heads.{named_value}

@@ -5,8 +5,8 @@ use Rattle.capture.specs.Faults.{RoseBy}
 use Rattle.capture.specs.declared.book.Book.{Book}
 use Rattle.capture.specs.declared.limits.Limits.{Limits}
 use Rattle.capture.specs.declared.site.Site.{Site}
-use Rattle.cdxj_index.specs.Facts.{Facts}
-use Rattle.cdxj_index.specs.OfBook.{AreEntries}
+use Rattle.index_entry.specs.Facts.{Facts}
+use Rattle.index_entry.specs.OfBook.{AreEntries}
 use Rattle.outside.specs.declared.dialer.Transcript.{Transcript}
 
 -- Where and over what a connection is served: the archive's site, whether nobody else stores in the archive, whether its disk is

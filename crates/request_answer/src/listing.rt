@@ -18,7 +18,7 @@ use crate::refusing::refused;
 use crate::visit::Visit;
 use archive_shelf::Shelf;
 use capture::{Memory, Refusal};
-use cdxj_index::Entry;
+use index_entry::Entry;
 use std::alloc::Global;
 use surt_key::KeyedUrl;
 use timemap::body;

@@ -20,8 +20,8 @@ use crate::replaying::replay_found;
 use crate::visit::{Sought, Visit};
 use archive_shelf::Shelf;
 use capture::{Memory, Refusal};
-use cdxj_index::Entry;
 use http_head::{Field, first_value};
+use index_entry::{Entry, number_of};
 use std::alloc::Global;
 use surt_key::KeyedUrl;
 use time_text::{LATEST, NotATime, read_http};
@@ -131,13 +131,6 @@ fn names_date(sought: Sought, entry: &Entry) -> bool
     ensures { result ≡ names_date (Some (record { time = sought.entry.time; digits = sought.entry.digits })) entry.now.date }
 {
     (sought.digits == 14 || sought.digits == 17) && sought.time == entry.date
-}
-
-/// The number of an entry, as the result of a call, of which the checker knows the range.
-fn number_of(entry: &Entry) -> u32
-    ensures { result ≡ entry.now.number }
-{
-    entry.number
 }
 
 /// The answer that leads to the capture of an entry, where `url` was asked for.

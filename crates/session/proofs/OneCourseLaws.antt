@@ -8,7 +8,7 @@ use Rattle.capture.specs.declared.book.Book.{Book}
 use Rattle.capture.specs.declared.refusal.Refusal.{Refusal}
 use Rattle.capture.specs.declared.refusal.Refusal.TheVariants.{DialFault}
 use Rattle.capture.specs.declared.site.Site.{Site}
-use Rattle.cdxj_index.specs.OfBook.{AreEntries}
+use Rattle.index_entry.specs.OfBook.{AreEntries}
 use Rattle.exchange.specs.Aim.{aim_of}
 use Rattle.exchange.specs.Refusals.{memory_text}
 use Rattle.exchange.specs.declared.aim.Aim.{Aim}

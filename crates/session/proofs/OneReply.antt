@@ -19,8 +19,8 @@ use Rattle.capture.specs.declared.captured.Taken.{Taken}
 use Rattle.capture.specs.declared.framing.MessageFault.TheVariants as message_fault
 use Rattle.capture.specs.declared.refusal.Refusal.{Refusal}
 use Rattle.capture.specs.declared.refusal.Refusal.TheVariants.{Malformed, TargetRefused, BadTime, BadAcceptDatetime, BadQuery, NotAForm, NoCapture, NoSuch, MethodRefused, BodyTooLong, HeadTooLong, ClockRange, ConnectRefused, SecureRefused, CodingRefused, DialFault, OriginFault, OriginEnded, OriginMalformed, OriginTooLong, TooManyInterim, Full, DiskFault, Damaged}
-use Rattle.cdxj_index.specs.Facts.{Facts}
-use Rattle.cdxj_index.specs.OfBook.{AreEntries, BooksHaveOneListOfEntries}
+use Rattle.index_entry.specs.Facts.{Facts}
+use Rattle.index_entry.specs.OfBook.{AreEntries, BooksHaveOneListOfEntries}
 use Rattle.exchange.specs.Fetches.{ArrivesWhole, ArrivesCut}
 use Rattle.exchange.specs.declared.fetching.FetchFault.{FetchFault}
 use Rattle.http_head.specs.declared.head.Received.{Received}

@@ -27,13 +27,13 @@ use Rattle.cdx_query.specs.Laws.{QueriesHaveOneAnswer, TextsAreOneQuery}
 use Rattle.cdx_query.specs.Answers.{IsAnswer}
 use Rattle.cdx_query.specs.Reading.{IsQuery}
 use Rattle.cdx_query.specs.declared.query.Query.{Query as CdxQuery}
-use Rattle.cdxj_index.proofs.Members.{Among, among_from_contains, contains_from_among, same_from_members}
-use Rattle.cdxj_index.proofs.OneIndex.{one_entry}
-use Rattle.cdxj_index.proofs.Orders.{both_equal, moment_tied, order_total}
-use Rattle.cdxj_index.specs.Facts.{Facts}
-use Rattle.cdxj_index.specs.OfBook.{AreEntries, IsEntryOf}
-use Rattle.cdxj_index.specs.Order.{Moment, comes_before, moment_cmp, moment_of, order}
-use Rattle.cdxj_index.specs.Queries.{HasNone, IsNearest, distance}
+use Rattle.index_entry.proofs.Members.{Among, among_from_contains, contains_from_among, same_from_members}
+use Rattle.index_entry.proofs.OneIndex.{one_entry}
+use Rattle.index_entry.proofs.Orders.{both_equal, moment_tied, order_total}
+use Rattle.index_entry.specs.Facts.{Facts}
+use Rattle.index_entry.specs.OfBook.{AreEntries, IsEntryOf}
+use Rattle.index_entry.specs.Order.{Moment, comes_before, moment_cmp, moment_of, order}
+use Rattle.index_entry.specs.Queries.{HasNone, IsNearest, distance}
 use Rattle.html_rewrite.specs.Pieces.{Piece, replaced}
 use Rattle.html_rewrite.specs.Rewritten.{within}
 use Rattle.html_rewrite.specs.Split.{OneSplit}

@@ -4,8 +4,8 @@ use Rattle.std.specs.Prelude.{Contains}
 use Rattle.std.proofs.lemmas.List.Elements.{Contains-append_left, Contains-append_cases}
 use Rattle.archive_shelf.proofs.CallLaws.{begins_both, leads_begins}
 use Rattle.archive_shelf.specs.Contents.{Begins}
-use Rattle.cdxj_index.specs.Facts.{Facts}
-use Rattle.cdxj_index.specs.OfBook.{IsEntryOf}
+use Rattle.index_entry.specs.Facts.{Facts}
+use Rattle.index_entry.specs.OfBook.{IsEntryOf}
 use Rattle.capture.specs.declared.refusal.Refusal.TheVariants.{NoSuch}
 use Rattle.archive_shelf.specs.Answers.{IsBrought}
 use Rattle.session.specs.Laws.{FoundCapturesAreReplayed, ShownNumbersAreThere}

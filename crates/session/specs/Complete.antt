@@ -8,7 +8,7 @@ use Rattle.capture.specs.declared.refusal.Refusal.{Refusal}
 use Rattle.capture.specs.declared.site.Site.{Site}
 use Rattle.cdx_query.specs.Reading.{IsQuery}
 use Rattle.cdx_query.specs.declared.query.Query.{Query}
-use Rattle.cdxj_index.specs.Queries.{HasNone}
+use Rattle.index_entry.specs.Queries.{HasNone}
 use Rattle.exchange.specs.Texts.{answered}
 use Rattle.exchange.specs.declared.aim.Aim.{Aim}
 use Rattle.http_head.specs.declared.head.Received.{Received}

@@ -19,8 +19,8 @@ use Rattle.session.specs.Courses.{IsCourse, origin_faults, disk_faults}
 use Rattle.request_answer.specs.Traces.{Terms, View, CountsMet, IsConsistentView}
 use Rattle.capture.specs.declared.captured.Brought.{Brought}
 use Rattle.capture.specs.declared.refusal.Refusal.TheVariants.{NoSuch}
-use Rattle.cdxj_index.specs.Facts.{Facts}
-use Rattle.cdxj_index.specs.OfBook.{IsEntryOf}
+use Rattle.index_entry.specs.Facts.{Facts}
+use Rattle.index_entry.specs.OfBook.{IsEntryOf}
 use Rattle.replay_url.specs.Questions.{Nearest, ForNearest}
 use Rattle.request_answer.specs.SiteAnswers.{SiteRequest, Refuses, HasNoMore, Reaches, Replays, IsSiteReply}
 

@@ -3,7 +3,7 @@
 use Rattle.std.specs.Prelude.{◌≡◌, ◌⊎◌, ℕ, ◌-◌, ◌^◌, ◌<◌, true, false, List, [], ◌∷◌, ◌++◌, IsTrue, ⊤}
 use Rattle.capture.specs.declared.book.Book.{Book}
 use Rattle.capture.specs.declared.site.Site.{Site}
-use Rattle.cdxj_index.specs.OfBook.{AreEntries}
+use Rattle.index_entry.specs.OfBook.{AreEntries}
 use Rattle.outside.specs.declared.gate.Heard.{Heard}
 use Rattle.request_answer.specs.Gains.{gains_of}
 use Rattle.request_answer.specs.Requests.{IsUndecided}

@@ -8,10 +8,10 @@ use archive_shelf::{
 };
 use capture::{captures_have_one_payload, growth_keeps_captures, wires_have_one_payload};
 use cdx_query::{queries_have_one_answer, texts_are_one_query};
-use cdxj_index::books_have_one_index;
 use html_rewrite::a_page_has_one_split;
 use http_head::fronts_stay;
 use http_wire::{decisions_are_one, decisions_stay};
+use index_entry::books_have_one_index;
 use warc_text::numbers_have_one_group;
 
 /// Over a lawful course the book only grows, and so does what is shown. Alone, each round is decided by just the entries of its

@@ -1,8 +1,9 @@
 //! A view of a list that is held while another thread shows a longer list.
 ghost use Rattle.std.specs.Prelude.{◌≡◌, None, [], ◌∷◌};
 
-use cdxj_index::{Entry, Index, SharedEntry};
+use cdxj_index::{Index, SharedEntry};
 use cdxj_line::read_line;
+use index_entry::Entry;
 use index_snapshot::{Brings, Publisher, Viewer, published};
 use std::alloc::Global;
 use std::process::Abort;

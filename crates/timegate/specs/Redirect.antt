@@ -1,7 +1,7 @@
 -- The answer that leads to a memento (RFC 9110, section 15.4.3; RFC 7089, section 4).
 use Rattle.std.specs.Prelude.{ℕ, Bool, List, [], ◌++◌, codes, if◌then◌else◌}
 use Rattle.httparse.specs.Ascii.{crlf_bytes}
-use Rattle.cdxj_index.specs.Facts.{Facts}
+use Rattle.index_entry.specs.Facts.{Facts}
 use Rattle.head_lines.specs.Lines.{own_status_line, link_line, head_end}
 use Rattle.head_lines.specs.declared.status.Status.TheVariants.{Found}
 use Rattle.replay_url.specs.Forms.{memento_address}

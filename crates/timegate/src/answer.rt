@@ -5,8 +5,8 @@ ghost use Rattle.timegate.specs.Redirect.{redirect_links, redirect_text, vary_li
 
 use crate::lines::{put_links, put_location_line, put_vary_line};
 use capture::{Bytes, Memory, Site};
-use cdxj_index::Entry;
 use head_lines::{Status, put_head_end, put_own_status_line};
+use index_entry::Entry;
 use std::alloc::Global;
 
 /// More than what the answer has besides the base and the URLs.

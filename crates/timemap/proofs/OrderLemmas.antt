@@ -8,9 +8,9 @@ use Rattle.std.specs.Cmp.Lexicographic.{slice_cmp}
 use Rattle.std.specs.List.Sorted.{IsNonDecreasingBy}
 use Rattle.std.specs.Ordering.{nat_cmp, ordering_then}
 use Rattle.std.specs.declared.cmp.Ordering.TheVariants.{Less, Equal, Greater}
-use Rattle.cdxj_index.specs.Facts.{Facts}
-use Rattle.cdxj_index.specs.Order.{moment_cmp, moment_of, order}
-use Rattle.cdxj_index.specs.Queries.{IsIndex, of_key}
+use Rattle.index_entry.specs.Facts.{Facts}
+use Rattle.index_entry.specs.Order.{moment_cmp, moment_of, order}
+use Rattle.index_entry.specs.Queries.{IsIndex, of_key}
 
 same_bytes : (a b : List ℕ) → bytes_eq a b ≡ true → a ≡ b
 same_bytes [] [] e = refl

@@ -3,7 +3,7 @@ use Rattle.std.proofs.Common.{◌≡◌, ℕ, ◌<◌, true, false, eqb, List, [
 use Rattle.std.proofs.lemmas.Bool.{cases_eq, cond-true, cond-false, eq-eqb, ne_eqb}
 use Rattle.std.specs.List.{flat_map}
 use Rattle.std.specs.List.Sorted.{IsNonDecreasingBy}
-use Rattle.cdxj_index.specs.Facts.{Facts}
+use Rattle.index_entry.specs.Facts.{Facts}
 use Rattle.replay_url.specs.Links.{original_link, gate_link}
 use Rattle.timemap.specs.LinkList.{last_date, last_date_behind, on_next_line, self_link, timemap_text}
 use Rattle.timemap.specs.Mementos.{each_date_once, has_other_date, is_last, memento_link, memento_links}

@@ -1,7 +1,7 @@
 -- The list of a URL's captures (RFC 7089, section 5), a list of links (RFC 6690, section 2).
 use Rattle.std.specs.Prelude.{ℕ, true, List, [], ◌∷◌, ◌++◌, codes}
 use Rattle.std.specs.List.{flat_map}
-use Rattle.cdxj_index.specs.Facts.{Facts}
+use Rattle.index_entry.specs.Facts.{Facts}
 use Rattle.time_text.specs.Texts.{http_date}
 use Rattle.replay_url.specs.Links.{original_link, gate_link, map_link, link_parameter}
 use Rattle.timemap.specs.Mementos.{each_date_once, memento_links}

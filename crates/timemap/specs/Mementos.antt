@@ -1,6 +1,6 @@
 -- The mementos of a URL (RFC 7089, section 2.1.1), and what each is among them.
 use Rattle.std.specs.Prelude.{ℕ, Bool, true, false, not, ◌==◌, List, [], ◌∷◌, ◌++◌, codes, filter}
-use Rattle.cdxj_index.specs.Facts.{Facts}
+use Rattle.index_entry.specs.Facts.{Facts}
 use Rattle.time_text.specs.Texts.{time_digits, http_date}
 use Rattle.replay_url.specs.Forms.{memento_address}
 use Rattle.replay_url.specs.Links.{link_target, link_relation, link_parameter}

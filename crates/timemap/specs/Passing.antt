@@ -1,6 +1,6 @@
 -- How the mementos are written in one pass over the entries.
 use Rattle.std.specs.Prelude.{ℕ, false, ◌==◌, List, [], ◌∷◌, ◌++◌, if◌then◌else◌}
-use Rattle.cdxj_index.specs.Facts.{Facts}
+use Rattle.index_entry.specs.Facts.{Facts}
 use Rattle.timemap.specs.LinkList.{on_next_line}
 use Rattle.timemap.specs.Mementos.{memento_link}
 

@@ -3,7 +3,7 @@ ghost use Rattle.std.specs.Prelude.{◌≡◌, ◌<◌, length};
 ghost use Rattle.time_text.specs.Texts.{InRange};
 ghost use Rattle.timemap.specs.LinkList as spec;
 
-use cdxj_index::Entry;
+use index_entry::Entry;
 
 /// The date of an entry, which has a text.
 pub fn date_of(entry: &Entry) -> u64

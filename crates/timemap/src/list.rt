@@ -8,7 +8,7 @@ ghost use Rattle.timemap.specs.LinkList.{on_next_line, self_link, timemap_text};
 use crate::dates::{date_of, last_date};
 use crate::mementos::{put_later_mementos, put_memento_item};
 use capture::{Bytes, Memory, Site, put_all};
-use cdxj_index::Entry;
+use index_entry::Entry;
 use replay_url::{put_gate_link, put_link_parameter, put_map_link, put_original_link};
 use std::alloc::Global;
 use time_text::write_http;

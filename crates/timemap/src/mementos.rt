@@ -10,7 +10,7 @@ ghost use Rattle.time_text.specs.Texts.{time_digits};
 
 use crate::dates::date_of;
 use capture::{Memory, Site, put_all};
-use cdxj_index::Entry;
+use index_entry::Entry;
 use replay_url::{put_link_parameter, put_memento};
 use time_text::{write_http, write_time};
 

@@ -2,7 +2,7 @@
 use Rattle.std.proofs.Common.{◌≡◌, Bool, false, List, [], ◌∷◌, ◌++◌, refl, sym, ap, subst, ◌∙◌, inl, arith, append_assoc}
 use mathlib.Core.List.{IsPrefix}
 use Rattle.capture.specs.GrowthLaws.{GrowsFromItself, GrowthGoesOn, GrowthKeepsCaptures}
-use Rattle.cdxj_index.specs.Facts.{Facts}
+use Rattle.index_entry.specs.Facts.{Facts}
 use Rattle.archive_index.specs.Shown.{numbered}
 use Rattle.archive_shelf.specs.Contents.{Begins}
 use Rattle.archive_shelf.specs.Told.{KnowsBook, LooksOn}

@@ -4,8 +4,8 @@ use mathlib.Core.List.{IsPrefix}
 use mathlib.Core.Bool.{true≢false}
 use Rattle.std.specs.Prelude.{Contains, MatchBool}
 use Rattle.capture.specs.declared.captured.Brought.{Brought}
-use Rattle.cdxj_index.specs.Facts.{Facts}
-use Rattle.cdxj_index.proofs.Members.{Among-append_left, among_from_contains, contains_from_among}
+use Rattle.index_entry.specs.Facts.{Facts}
+use Rattle.index_entry.proofs.Members.{Among-append_left, among_from_contains, contains_from_among}
 use Rattle.archive_shelf.specs.Answers.{Brings, is_bring_fault}
 use Rattle.archive_shelf.specs.Pieces.{GivesPiece}
 use Rattle.archive_shelf.specs.declared.fault.BringFault.{BringFault}

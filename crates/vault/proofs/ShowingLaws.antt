@@ -9,13 +9,13 @@ use Rattle.std.proofs.lemmas.Cmp.{nat_cmp_total}
 use Rattle.capture.specs.Growth.{Grows}
 use Rattle.capture.specs.GrowthLaws.{GrowsFromItself, GrowthGoesOn, GrowthKeepsCaptures}
 use Rattle.capture.specs.declared.book.Book.{Book}
-use Rattle.cdxj_index.specs.Facts.{Facts}
-use Rattle.cdxj_index.specs.OfBook.{by_number}
-use Rattle.cdxj_index.specs.Order.{order}
-use Rattle.cdxj_index.specs.Queries.{IsIndex, IsNearest, with_number}
-use Rattle.cdxj_index.proofs.Entries.{with_number-none, with_number-some}
-use Rattle.cdxj_index.proofs.Members.{Among, Among-filter, Among-append_right, Among-filter_back, Sorted-filter, all_among, among_from_contains, contains_from_among, not_below_itself}
-use Rattle.cdxj_index.proofs.Orders.{order_total}
+use Rattle.index_entry.specs.Facts.{Facts}
+use Rattle.index_entry.specs.OfBook.{by_number}
+use Rattle.index_entry.specs.Order.{order}
+use Rattle.index_entry.specs.Queries.{IsIndex, IsNearest, with_number}
+use Rattle.index_entry.proofs.Entries.{with_number-none, with_number-some}
+use Rattle.index_entry.proofs.Members.{Among, Among-filter, Among-append_right, Among-filter_back, Sorted-filter, all_among, among_from_contains, contains_from_among, not_below_itself}
+use Rattle.index_entry.proofs.Orders.{order_total}
 use Rattle.archive_shelf.specs.Contents.{Shows}
 use Rattle.archive_shelf.specs.Queries.{ArePicked, IsFound}
 use Rattle.archive_index.specs.Shown.{numbered}

@@ -1,7 +1,7 @@
 -- What is found by date in a list that was seen.
 use Rattle.std.specs.Prelude.{ℕ, List, bytes_eq, nat_eq}
 use Rattle.std.specs.List.{starts_with}
-use Rattle.cdxj_index.specs.Facts.{Facts}
+use Rattle.index_entry.specs.Facts.{Facts}
 use Rattle.archive_shelf.specs.Queries.{ArePicked}
 use Rattle.vault_turns.specs.Items.{shown_in}
 use Rattle.vault_turns.specs.declared.item.Item.{Item}

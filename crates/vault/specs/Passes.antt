@@ -2,7 +2,7 @@
 use Rattle.std.specs.Prelude.{◌≡◌, ℕ, Bool, IsTrue, List}
 use Rattle.capture.specs.declared.book.Book.{Book}
 use Rattle.capture.specs.declared.limits.Limits.{Limits}
-use Rattle.cdxj_index.specs.OfBook.{AreEntries}
+use Rattle.index_entry.specs.OfBook.{AreEntries}
 use Rattle.history_lock.specs.Known.{Known, LockId, newcomer}
 use Rattle.history_lock.specs.Seen.{Shows}
 use Rattle.vault_turns.specs.History.{IsBegun, IsOpening, by_of, given_faults, is_told, sure_in, told_book, told_limits}

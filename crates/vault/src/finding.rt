@@ -1,15 +1,16 @@
 //! Captures by date, in the list that readers see.
 ghost use mathlib.Core.List.{IsPrefix};
 ghost use Rattle.std.specs.Prelude.{◌≡◌, ◌<◌, ◌++◌, ◌∷◌, [], true, Contains, IfOk, MatchResult, OnOk};
-ghost use Rattle.cdxj_index.specs.Queries.{IsIndex, of_key, starting_with};
+ghost use Rattle.index_entry.specs.Queries.{IsIndex, of_key, starting_with};
 ghost use Rattle.archive_shelf.specs.Queries.{IsFound};
 ghost use Rattle.vault.specs.Finding.{AreOfKey, AreStarting};
 ghost use Rattle.vault_turns.specs.Items.{shown_in};
 ghost use Rattle.vault_turns.specs.Listing.{HasSeen};
 
 use capture::{Memory, growth_keeps_captures};
-use cdxj_index::{Entry, Index, SharedEntry, Steps};
+use cdxj_index::{Index, SharedEntry, Steps};
 use core::mem::replace_with;
+use index_entry::Entry;
 use index_snapshot::{View, Viewer};
 use std::alloc::Global;
 use std::marker::Brand;

@@ -2,8 +2,8 @@
 use crate::samples::{Sample, address_of, payload_of, taken_of};
 use archive_shelf::{Finder, Receipt, Shelf, StoreFault};
 use capture::Memory;
-use cdxj_index::Entry;
 use disk_model::Disk;
+use index_entry::Entry;
 use std::alloc::Global;
 use std::sync::Wait;
 use surt_key::key_of_address;

@@ -5,12 +5,12 @@ use Rattle.std.proofs.lemmas.Bool.{eqb-false, lt-ltb, le-ltb, ltb-true, ltb-fals
 use Rattle.std.proofs.lemmas.Option.{slice_get_within}
 use Rattle.capture.specs.Captures.{captures}
 use Rattle.capture.specs.declared.book.Book.{Book}
-use Rattle.cdxj_index.specs.Facts.{Facts}
-use Rattle.cdxj_index.specs.OfBook.{AreEntries}
-use Rattle.cdxj_index.specs.Order.{with_entry}
-use Rattle.cdxj_index.specs.Queries.{IsIndex, with_number}
-use Rattle.cdxj_index.proofs.Entries.{number_same, with_number-none, with_number-some}
-use Rattle.cdxj_index.proofs.Members.{among_from_contains, contains_from_among}
+use Rattle.index_entry.specs.Facts.{Facts}
+use Rattle.index_entry.specs.OfBook.{AreEntries}
+use Rattle.index_entry.specs.Order.{with_entry}
+use Rattle.index_entry.specs.Queries.{IsIndex, with_number}
+use Rattle.index_entry.proofs.Entries.{number_same, with_number-none, with_number-some}
+use Rattle.index_entry.proofs.Members.{among_from_contains, contains_from_among}
 use Rattle.archive_index.specs.Shown.{numbered}
 use Rattle.archive_index.proofs.ShownLaws.{shown_all, shown_from}
 use Rattle.index_snapshot.proofs.Bringing.{number_put}

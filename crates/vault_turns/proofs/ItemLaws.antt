@@ -10,11 +10,11 @@ use Rattle.capture.specs.Growth.{Grows}
 use Rattle.capture.specs.GrowthLaws.{GrowsFromItself, GrowthGoesOn, GrowthKeepsCaptures}
 use Rattle.capture.specs.declared.book.Book.{Book}
 use Rattle.capture.specs.declared.captured.Stored.{Stored}
-use Rattle.cdxj_index.specs.Facts.{Facts}
-use Rattle.cdxj_index.specs.OfBook.{AreEntries, AreOf, by_number}
-use Rattle.cdxj_index.specs.Queries.{with_number}
-use Rattle.cdxj_index.proofs.Entries.{with_number-some}
-use Rattle.cdxj_index.proofs.Members.{Among, Among-append, Among-append_left, Among-append_right, all_among, all_from_among, among_from_contains, contains_from_among}
+use Rattle.index_entry.specs.Facts.{Facts}
+use Rattle.index_entry.specs.OfBook.{AreEntries, AreOf, by_number}
+use Rattle.index_entry.specs.Queries.{with_number}
+use Rattle.index_entry.proofs.Entries.{with_number-some}
+use Rattle.index_entry.proofs.Members.{Among, Among-append, Among-append_left, Among-append_right, all_among, all_from_among, among_from_contains, contains_from_among}
 use Rattle.archive_index.specs.Shown.{numbered}
 use Rattle.archive_index.proofs.ShownLaws.{numbered_sorted, shown_all, shown_from}
 use Rattle.index_snapshot.specs.Entries.{entries_in}

@@ -11,10 +11,10 @@ use Rattle.capture.specs.GrowthLaws.{GrowsFromItself, GrowthGoesOn, GrowthKeepsC
 use Rattle.capture.specs.declared.book.Book.{Book}
 use Rattle.capture.specs.declared.captured.Stored as captured
 use Rattle.capture.specs.declared.captured.Taken.{Taken}
-use Rattle.cdxj_index.specs.Facts.{Facts}
-use Rattle.cdxj_index.specs.OfBook.{AreOf, by_number}
-use Rattle.cdxj_index.specs.Queries.{IsIndex}
-use Rattle.cdxj_index.proofs.Members.{Among-append, Among-append_left, Among-append_right, among_from_contains, contains_from_among}
+use Rattle.index_entry.specs.Facts.{Facts}
+use Rattle.index_entry.specs.OfBook.{AreOf, by_number}
+use Rattle.index_entry.specs.Queries.{IsIndex}
+use Rattle.index_entry.proofs.Members.{Among-append, Among-append_left, Among-append_right, among_from_contains, contains_from_among}
 use Rattle.archive_shelf.proofs.ComparingLaws.{placed_before}
 use Rattle.archive_shelf.proofs.EntryLaws.{entries_stay}
 use Rattle.archive_shelf.proofs.StoringLaws.{captures_stay, gains_stand_behind}

@@ -4,9 +4,9 @@ use Rattle.std.specs.List.Sorted.{IsStrictlySortedBy}
 use Rattle.capture.specs.Captures.{captures}
 use Rattle.capture.specs.Growth.{Grows}
 use Rattle.capture.specs.declared.book.Book.{Book}
-use Rattle.cdxj_index.specs.Facts.{Facts}
-use Rattle.cdxj_index.specs.OfBook.{AreOf, by_number}
-use Rattle.cdxj_index.specs.Queries.{IsIndex}
+use Rattle.index_entry.specs.Facts.{Facts}
+use Rattle.index_entry.specs.OfBook.{AreOf, by_number}
+use Rattle.index_entry.specs.Queries.{IsIndex}
 use Rattle.archive_shelf.specs.Storing.{empty_book}
 use Rattle.archive_volumes.specs.Held.{book_of}
 use Rattle.archive_index.specs.Shown.{numbered}

@@ -2,9 +2,9 @@
 use Rattle.std.specs.Prelude.{◌≡◌, ℕ, ◌<◌, Bool, IsTrue, IfNone, IfSome, List, length, Contains, Option, None, option_to_list, if◌then◌else◌, nat_lt}
 use Rattle.capture.specs.Captures.{captures}
 use Rattle.capture.specs.declared.book.Book.{Book}
-use Rattle.cdxj_index.specs.Facts.{Facts}
-use Rattle.cdxj_index.specs.OfBook.{AreEntries, AreOf}
-use Rattle.cdxj_index.specs.Queries.{IsIndex, with_number}
+use Rattle.index_entry.specs.Facts.{Facts}
+use Rattle.index_entry.specs.OfBook.{AreEntries, AreOf}
+use Rattle.index_entry.specs.Queries.{IsIndex, with_number}
 use Rattle.archive_core.specs.Holdings.{Holdings}
 use Rattle.archive_index.specs.Shown.{numbered}
 use Rattle.vault_turns.specs.Items.{book_in, brings_of}

@@ -17,7 +17,7 @@ use Rattle.archive_shelf.specs.declared.looked.Looked.{Looked}
 use Rattle.archive_shelf.specs.declared.receipt.Receipt.{Receipt}
 use Rattle.archive_core.specs.Looking.{Looks}
 use Rattle.archive_payloads.specs.Choosing.{is_look_fault}
-use Rattle.cdxj_index.specs.Facts.{Facts}
+use Rattle.index_entry.specs.Facts.{Facts}
 use Rattle.history_lock.specs.Known.{Known}
 use Rattle.history_lock.specs.Seen.{Turn}
 use Rattle.vault_turns.specs.History.{by_of, showing, told_book, told_in, told_limits}

@@ -1,7 +1,7 @@
 //! What is taken of an archive for the list that is published.
 ghost use Rattle.std.specs.Prelude.{◌≡◌, ◌<◌, suc, IfNone, IfOk, IfSome, OnOk, None, Contains, length};
 ghost use Rattle.capture.specs.Captures.{captures};
-ghost use Rattle.cdxj_index.specs.Facts.{Facts};
+ghost use Rattle.index_entry.specs.Facts.{Facts};
 ghost use Rattle.archive_index.specs.Shown.{numbered};
 ghost use Rattle.vault_turns.specs.Items.{book_in, brings_of};
 ghost use Rattle.vault_turns.specs.Taking.{HasBelow, IsGathered, TakesItem};
@@ -39,7 +39,7 @@ fn place_of<D: Disk>(alloc: Global, archive: &Archive<D>, number: u32) -> Result
 }
 
 /// The entry for the copies that readers take.
-fn shared(alloc: Global, entry: cdxj_index::Entry) -> Result<Place, Memory>
+fn shared(alloc: Global, entry: index_entry::Entry) -> Result<Place, Memory>
     ensures { IfOk result (λ place. IfSome place (λ e. e ≡ entry) × (place ≡ None → ⊥)) }
 {
     let shared = SharedEntry::new(alloc, entry)?;

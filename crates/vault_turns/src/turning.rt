@@ -7,7 +7,7 @@ use history_lock::Work;
 /// What a pass does in its turn with what lies behind the lock.
 pub trait Act<D: Disk> {
     ghost use Rattle.std.specs.Prelude.{Bool, List};
-    ghost use Rattle.cdxj_index.specs.Facts.{Facts};
+    ghost use Rattle.index_entry.specs.Facts.{Facts};
     ghost use Rattle.index_snapshot.specs.Entries.{entries_in};
     ghost use Rattle.vault_turns.specs.Items.{brings_of};
     ghost use Rattle.history_lock.specs.Seen.{Adds};

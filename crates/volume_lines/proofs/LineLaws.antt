@@ -21,9 +21,9 @@ use Rattle.capture.proofs.PayloadLaws.{captures_have_one}
 use Rattle.surt_key.specs.Key.{key_of}
 use Rattle.surt_key.specs.Targets.{TargetsHaveKeys}
 use Rattle.cdxj_line.specs.declared.line.Line.{Line}
-use Rattle.cdxj_index.specs.OfBook.{IsBefore, IsEntryOf, mime_by}
-use Rattle.cdxj_index.specs.Facts.{Facts}
-use Rattle.cdxj_index.specs.OfLine.{facts_of, line_at}
+use Rattle.index_entry.specs.OfBook.{IsBefore, IsEntryOf, mime_by}
+use Rattle.index_entry.specs.Facts.{Facts}
+use Rattle.index_entry.specs.OfLine.{facts_of, line_at}
 use Rattle.warc_scan.specs.Groups.{IsGroup, reference_in}
 use Rattle.warc_scan.specs.Outlines.{IsOutlineOf}
 use Rattle.warc_scan.specs.declared.group.Group.{Group}

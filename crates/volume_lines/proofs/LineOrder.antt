@@ -5,9 +5,9 @@ use Rattle.std.specs.Cmp.Lexicographic.{slice_cmp}
 use Rattle.std.specs.Ordering.{nat_cmp}
 use Rattle.std.specs.declared.cmp.Ordering.TheVariants.{Equal}
 use Rattle.std.proofs.lemmas.Cmp.{on_total}
-use Rattle.cdxj_index.proofs.Orders.{both_equal, moment_tied, order_total}
-use Rattle.cdxj_index.specs.Order.{moment_cmp, moment_of}
-use Rattle.cdxj_index.specs.OfLine.{facts_of}
+use Rattle.index_entry.proofs.Orders.{both_equal, moment_tied, order_total}
+use Rattle.index_entry.specs.Order.{moment_cmp, moment_of}
+use Rattle.index_entry.specs.OfLine.{facts_of}
 use Rattle.cdxj_line.specs.declared.line.Line.{Line}
 use Rattle.checkpoint.specs.Checkpoints.{line_order}
 

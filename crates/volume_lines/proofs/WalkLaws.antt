@@ -14,7 +14,7 @@ use Rattle.capture.specs.declared.book.Book.{Book}
 use Rattle.capture.specs.declared.book.Volume.{Volume}
 use Rattle.archive_volumes.specs.declared.volume_facts.VolumeFacts.{VolumeFacts}
 use Rattle.cdxj_line.specs.declared.line.Line.{Line}
-use Rattle.cdxj_index.proofs.Members.{all_from_among, contains_from_among}
+use Rattle.index_entry.proofs.Members.{all_from_among, contains_from_among}
 use Rattle.warc_text.specs.Books.{AreVolumeTexts, IsVolumeText}
 use Rattle.archive_volumes.specs.Held.{book_of}
 use Rattle.archive_volumes.specs.Spots.{text_at}

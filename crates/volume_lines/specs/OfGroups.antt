@@ -10,7 +10,7 @@ use Rattle.capture.specs.declared.book.Volume.{Volume}
 use Rattle.surt_key.specs.Key.{key_of}
 use Rattle.cdxj_line.specs.Lines.{IsWritable}
 use Rattle.cdxj_line.specs.declared.line.Line.{Line}
-use Rattle.cdxj_index.specs.OfLine.{line_at}
+use Rattle.index_entry.specs.OfLine.{line_at}
 use Rattle.warc_scan.specs.declared.group.Group.{Group}
 use Rattle.warc_scan.specs.declared.outline.Outline.{Outline}
 use Rattle.warc_text.specs.Books.{IsVolumeText, joined}

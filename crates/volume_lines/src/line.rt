@@ -9,8 +9,8 @@ ghost use Rattle.volume_lines.specs.OfGroups.{CanBeIn, IsLineToldOf, record_in};
 
 use archive_volumes::{Asked, RecordAt, told_entry};
 use capture::Memory;
-use cdxj_index::Entry;
 use cdxj_line::Line;
+use index_entry::Entry;
 use std::alloc::Global;
 use warc_scan::Outline;
 

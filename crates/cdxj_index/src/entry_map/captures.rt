@@ -3,9 +3,9 @@ ghost use Rattle.std.specs.Prelude.{◌≡◌, false, None, Some, IfOk, IsTrue, 
 ghost use Rattle.cdxj_index.specs.declared.entry_map.captures.Captures.TheVariants.{One, Many};
 ghost use Rattle.cdxj_index.specs.Maps.{Changes, HoldsOnly, HoldsSame, IsInOrder, entry_of};
 
-use crate::entry_map::Moment;
 use crate::shared::Shared;
 use capture::Memory;
+use index_entry::Moment;
 use std::alloc::Global;
 use std::collections::BTreeMap;
 

@@ -1,10 +1,10 @@
 //! Entries that come in order, in groups of one key.
 ghost use Rattle.std.specs.Prelude.{◌≡◌, ◌<◌, ◌^◌, [], ◌∷◌, ◌++◌, Contains, IfOk, OnOk};
 ghost use Rattle.std.specs.declared.cmp.Ordering.TheVariants.{Less};
-ghost use Rattle.cdxj_index.specs.Facts.{Facts};
+ghost use Rattle.index_entry.specs.Facts.{Facts};
 ghost use Rattle.cdxj_index.specs.Groups.{AreGroups, IsGroup};
 ghost use Rattle.cdxj_index.specs.Maps.{entry_of, shown, shown_all};
-ghost use Rattle.cdxj_index.specs.Order.{order};
+ghost use Rattle.index_entry.specs.Order.{order};
 
 use crate::entry_map::captures::Captures;
 use crate::shared::Shared;

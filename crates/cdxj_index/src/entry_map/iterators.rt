@@ -2,12 +2,11 @@
 ghost use Rattle.std.specs.Prelude.{◌≡◌, []};
 ghost use Rattle.std.specs.Iterator.{YieldsFirstRef, item_count};
 ghost use Rattle.cdxj_index.specs.Maps.{AreKeys, entries_of, left_of, shown};
-ghost use Rattle.cdxj_index.specs.Queries.{starting_with};
+ghost use Rattle.index_entry.specs.Queries.{starting_with};
 
-use crate::Entry;
-use crate::entry_map::Moment;
 use crate::entry_map::captures::Captures;
 use crate::shared::Shared;
+use index_entry::{Entry, Moment};
 use std::collections::{BTreeMap, btree_map};
 use std::marker::Model;
 use surt_key::Key;
@@ -21,7 +20,7 @@ pub struct Range<'a> {
 
 impl<'a> Model for Range<'a> {
     ghost use Rattle.std.specs.Prelude.{List, option_copied};
-    ghost use Rattle.cdxj_index.specs.Facts.{Facts};
+    ghost use Rattle.index_entry.specs.Facts.{Facts};
     ghost use Rattle.cdxj_index.specs.Maps.{shown_left};
 
     ghost Value = { List Facts };
@@ -84,7 +83,7 @@ pub struct Starting<'a> {
 
 impl<'a> Model for Starting<'a> {
     ghost use Rattle.std.specs.Prelude.{List};
-    ghost use Rattle.cdxj_index.specs.Facts.{Facts};
+    ghost use Rattle.index_entry.specs.Facts.{Facts};
     ghost use Rattle.cdxj_index.specs.Maps.{left_of};
 
     ghost Value = { List Facts };

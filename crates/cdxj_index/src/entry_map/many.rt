@@ -3,8 +3,8 @@ ghost use Rattle.std.specs.Prelude.{IfNone, IfSome};
 ghost use Rattle.cdxj_index.specs.declared.entry_map.captures.Captures.TheVariants.{Many};
 ghost use Rattle.cdxj_index.specs.Maps.{HasNoneAfter, HasNoneFrom, HasNoneUntil, IsFirstAfter, IsFirstFrom, IsLastUntil};
 
-use crate::Entry;
 use crate::entry_map::captures::Places;
+use index_entry::Entry;
 use std::ops::Bound;
 
 /// The last capture up to the time.

@@ -3,8 +3,8 @@ ghost use Rattle.std.specs.Prelude.{IfNone, IfSome};
 ghost use Rattle.cdxj_index.specs.declared.entry_map.captures.Captures.TheVariants.{One};
 ghost use Rattle.cdxj_index.specs.Maps.{HasNoneAfter, HasNoneFrom, HasNoneUntil, IsFirstAfter, IsFirstFrom, IsLastUntil};
 
-use crate::Entry;
 use crate::shared::Shared;
+use index_entry::Entry;
 
 /// The capture, where it is from the time or before it.
 pub(crate) fn only_until(entry: &Shared, time: u64) -> Option<&Entry>

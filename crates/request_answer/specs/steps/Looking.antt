@@ -5,7 +5,7 @@ use Rattle.archive_shelf.specs.Queries.{ArePicked, IsFound}
 use Rattle.archive_shelf.specs.Told.{KnowsBook}
 use Rattle.cdx_query.specs.Answers.{IsAnswer}
 use Rattle.cdx_query.specs.declared.query.Query.{Query}
-use Rattle.cdxj_index.specs.Facts.{Facts}
+use Rattle.index_entry.specs.Facts.{Facts}
 use Rattle.replay_url.specs.Questions.{Nearest, names_date}
 use Rattle.surt_key.specs.Key.{key_of}
 use Rattle.time_text.specs.Blanks.{trim_blanks}

@@ -3,7 +3,7 @@ use Rattle.std.specs.Prelude.{IfOk, Result, Ok, Err}
 use Rattle.httparse.specs.Grammar as grammar
 use Rattle.capture.specs.Target.{IsAcceptedAs}
 use Rattle.capture.specs.declared.captured.Stored.{Stored}
-use Rattle.cdxj_index.specs.Facts.{Facts}
+use Rattle.index_entry.specs.Facts.{Facts}
 use Rattle.warc_journal.specs.declared.place.Place.{Place}
 use Rattle.warc_scan.specs.declared.group.Group.{Group}
 use Rattle.archive_volumes.specs.Entries.{EntersAs}

@@ -1,6 +1,6 @@
 use Rattle.std.proofs.Common.{subst, sym}
-use Rattle.cdxj_index.specs.Facts.{Facts}
-use Rattle.cdxj_index.specs.Queries.{IsNearest}
+use Rattle.index_entry.specs.Facts.{Facts}
+use Rattle.index_entry.specs.Queries.{IsNearest}
 use Rattle.archive_index.specs.Shown.{numbered}
 use Rattle.archive_index.proofs.FindingLaws as laws
 use Rattle.archive_index.proofs.finding.nearest_by.Goals as goal

@@ -1,5 +1,5 @@
 use Rattle.std.proofs.Common.{◌≡◌, ◌++◌}
-use Rattle.cdxj_index.specs.Queries.{starting_with}
+use Rattle.index_entry.specs.Queries.{starting_with}
 use Rattle.archive_index.proofs.finding.starting.Given as goal
 
 abbrev pub invariant-loop-entry : goal.invariant-loop-entry

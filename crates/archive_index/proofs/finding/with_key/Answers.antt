@@ -1,7 +1,7 @@
 use Rattle.std.proofs.Common.{List, ◌++◌, sym, ap, ◌∙◌}
 use Rattle.std.specs.Prelude.{bytes_eq}
 use Rattle.std.proofs.lemmas.List.{append-nil}
-use Rattle.cdxj_index.specs.Facts.{Facts}
+use Rattle.index_entry.specs.Facts.{Facts}
 use Rattle.archive_index.proofs.FindingLaws as laws
 use Rattle.archive_index.proofs.finding.with_key.Goals as goal
 

@@ -1,5 +1,5 @@
 use Rattle.std.proofs.Common.{◌≡◌, ◌++◌}
-use Rattle.cdxj_index.specs.Queries.{of_key}
+use Rattle.index_entry.specs.Queries.{of_key}
 use Rattle.archive_index.proofs.finding.with_key.Given as goal
 
 abbrev pub invariant-loop-entry : goal.invariant-loop-entry

@@ -1,6 +1,6 @@
 use Rattle.std.proofs.Common.{◌<◌, Option, subst}
 use Rattle.std.specs.Prelude.{Contains, IfSome}
-use Rattle.cdxj_index.specs.Facts.{Facts}
+use Rattle.index_entry.specs.Facts.{Facts}
 use Rattle.archive_index.proofs.IndexLaws.{index_after, none_there}
 use Rattle.archive_index.proofs.index.enter.Goals as goal
 

@@ -1,5 +1,5 @@
 use Rattle.std.proofs.Common.{sym, ap, subst, ◌∙◌}
-use Rattle.cdxj_index.specs.Queries.{IsIndex, starting_with}
+use Rattle.index_entry.specs.Queries.{IsIndex, starting_with}
 use Rattle.bench.proofs.AllKeys.{all_start}
 use Rattle.bench.proofs.index.copies.Goals as goal
 

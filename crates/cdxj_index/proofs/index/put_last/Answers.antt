@@ -1,6 +1,6 @@
 use Rattle.std.proofs.Common.{ap, ◌∙◌}
 use Rattle.std.proofs.lemmas.Result.{on_ok_weaker}
-use Rattle.cdxj_index.specs.Facts.{Facts}
+use Rattle.index_entry.specs.Facts.{Facts}
 use Rattle.cdxj_index.specs.Maps.{entry_of, shown_all}
 use Rattle.cdxj_index.proofs.Built.{numbers_push}
 use Rattle.cdxj_index.proofs.index.put_last.Goals as goal

@@ -1,5 +1,5 @@
 use Rattle.std.proofs.Common.{List, subst, sym}
-use Rattle.cdxj_index.specs.Facts.{Facts}
+use Rattle.index_entry.specs.Facts.{Facts}
 use Rattle.event_core.proofs.LookLaws.{map_lacks, mapped_answers}
 use Rattle.event_core.specs.declared.event.Event.TheVariants as events
 use Rattle.event_core.specs.declared.reply.Reply.TheVariants as replies

@@ -17,7 +17,7 @@ replay_found-requires g c =
           entry = c.in-Ok-Some.entry;
           reaches = record { form = Memento c.args.sought.time c.args.sought.digits c.args.sought.raw c.args.sought.of.now.url; asks = c.requires.asks; asked = refl; key = found.key; keyed = found.keyed; time = c.args.sought.time; timed = refl; nearest = found.nearest };
           named = by_test c.names_date.result (names_date (Some (record { time = c.args.sought.time; digits = c.args.sought.digits })) c.in-Ok-Some.entry.date) c.names_date.ensures c.if-names_date.true;
-          number_is = c.number_of.ensures;
+          number_is = c.number_of.ensures.number;
         };
         knows = found.knows;
       };

@@ -1,6 +1,6 @@
 -- The element at the end is the last one.
 use Rattle.std.proofs.Common.{◌≡◌, ◌+◌, ◌-◌, ◌∙◌, length, ap, arith}
-use Rattle.cdxj_index.specs.Facts.{Facts}
+use Rattle.index_entry.specs.Facts.{Facts}
 use Rattle.timemap.proofs.OnceLemmas.{last_at_end}
 use Rattle.timemap.proofs.dates.last_date.Goals as goal
 

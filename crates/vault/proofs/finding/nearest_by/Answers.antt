@@ -1,5 +1,5 @@
 use Rattle.std.proofs.Common.{ap}
-use Rattle.cdxj_index.specs.Facts.{Facts}
+use Rattle.index_entry.specs.Facts.{Facts}
 use Rattle.vault.proofs.ShowingLaws.{found_number, if_ok}
 use Rattle.vault.proofs.finding.nearest_by.Goals as goal
 

@@ -1,6 +1,6 @@
 use Rattle.std.proofs.Common.{sym, subst}
 use Rattle.std.specs.Prelude.{Option}
-use Rattle.cdxj_index.specs.Facts.{Facts}
+use Rattle.index_entry.specs.Facts.{Facts}
 use Rattle.archive_shelf.specs.Queries.{IsFound}
 use Rattle.index_snapshot.specs.Edges.{Edge}
 use Rattle.vault_turns.specs.Items.{shown_in}

@@ -1,5 +1,5 @@
 use Rattle.std.proofs.Common.{sym, subst, arith, List}
-use Rattle.cdxj_index.specs.Facts.{Facts}
+use Rattle.index_entry.specs.Facts.{Facts}
 use Rattle.vault_turns.specs.Taking.{HasBelow}
 use Rattle.vault_turns.proofs.GatherLaws.{has_nothing}
 use Rattle.vault_turns.proofs.gathering.gathered_by_number.Goals as goal

@@ -1,5 +1,5 @@
 use Rattle.std.proofs.Common.{Some, ap, sym, ◌∙◌}
-use Rattle.cdxj_index.specs.Facts.{Facts}
+use Rattle.index_entry.specs.Facts.{Facts}
 use Rattle.vault_turns.proofs.GatherLaws.{has_more, has_same, none_of}
 use Rattle.vault_turns.proofs.TellingLaws.{on_ok}
 use Rattle.vault_turns.proofs.gathering.put.Goals as goal

@@ -1,5 +1,5 @@
 use Rattle.std.proofs.Common.{◌∙◌, ap}
-use Rattle.cdxj_index.specs.Facts.{Facts}
+use Rattle.index_entry.specs.Facts.{Facts}
 use Rattle.cdxj_line.specs.declared.line.Line.{Line}
 use Rattle.volume_lines.proofs.LineLaws.{line_at_group, record_of_outline}
 use Rattle.volume_lines.proofs.line.line_of.Goals as goal

@@ -1,6 +1,6 @@
 use Rattle.std.proofs.Common.{◌≡◌, subst}
 use Rattle.std.specs.Prelude.{option_copied}
-use Rattle.cdxj_index.specs.Queries.{with_number}
+use Rattle.index_entry.specs.Queries.{with_number}
 use Rattle.archive_core.specs.Holdings.{Holdings}
 use Rattle.archive_core.proofs.ArchiveLaws as laws
 use Rattle.archive_core.proofs.archive.Archive.entry.Goals as goal

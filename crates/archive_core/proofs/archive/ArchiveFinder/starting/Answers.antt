@@ -1,5 +1,5 @@
 use Rattle.std.proofs.Common.{IsTrue, refl}
-use Rattle.cdxj_index.specs.OfBook.{AreEntries}
+use Rattle.index_entry.specs.OfBook.{AreEntries}
 use Rattle.archive_index.specs.Shown.{numbered}
 use Rattle.archive_core.proofs.ArchiveLaws.{on_each_ok}
 use Rattle.archive_core.proofs.archive.ArchiveFinder.starting.Goals as goal

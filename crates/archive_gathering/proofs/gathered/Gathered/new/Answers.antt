@@ -1,6 +1,6 @@
 use Rattle.std.proofs.Common.{◌≡◌, List, ℕ, [], sym, subst}
 use Rattle.capture.specs.declared.book.Book.{Book}
-use Rattle.cdxj_index.specs.Facts.{Facts}
+use Rattle.index_entry.specs.Facts.{Facts}
 use Rattle.archive_shelf.specs.Storing.{empty_book}
 use Rattle.archive_gathering.specs.Gathering.{TellsOf}
 use Rattle.archive_volumes.specs.declared.spot.Spot.{Spot}

@@ -2,7 +2,7 @@ use Rattle.std.proofs.Common.{IsTrue, refl, subst}
 use Rattle.std.specs.Prelude.{nat_eq, IfOk, OnOk}
 use Rattle.std.specs.List.{starts_with}
 use Rattle.archive_shelf.specs.Queries.{ArePicked}
-use Rattle.cdxj_index.specs.OfBook.{AreEntries}
+use Rattle.index_entry.specs.OfBook.{AreEntries}
 use Rattle.archive_core.specs.Holdings.{Holdings}
 use Rattle.archive_index.specs.Shown.{numbered}
 use Rattle.archive_core.proofs.ArchiveLaws.{on_each_ok}

@@ -1,6 +1,6 @@
 use Rattle.std.proofs.Common.{◌≡◌, ◌^◌, ◌<◌, Some, rules, ap, subst, sym, ◌∙◌}
 use Rattle.cdxj_index.specs.Maps.{Changes, entry_of}
-use Rattle.cdxj_index.specs.Order.{Moment, moment_of}
+use Rattle.index_entry.specs.Order.{Moment, moment_of}
 use Rattle.cdxj_index.proofs.Changes.{put_there, keys_there, put_first, keys_first, same_there, keys_same, keys_alike, on_err}
 use Rattle.cdxj_index.proofs.entry_map.EntryMap.insert.Goals as goal
 

@@ -1,5 +1,5 @@
 use Rattle.std.proofs.Common.{ap, ◌∙◌}
-use Rattle.cdxj_index.specs.Order.{moment_of}
+use Rattle.index_entry.specs.Order.{moment_of}
 use Rattle.cdxj_index.proofs.Changes.{both_held}
 use Rattle.cdxj_index.proofs.entry_map.captures.both_of.Goals as goal
 

@@ -1,9 +1,9 @@
 use Rattle.std.proofs.Common.{◌≡◌, [], ◌∷◌, ◌++◌, refl, sym, ap, ◌∙◌}
 use Rattle.std.proofs.lemmas.List.{nil_from_length}
-use Rattle.cdxj_index.specs.Facts.{Facts}
+use Rattle.index_entry.specs.Facts.{Facts}
 use Rattle.cdxj_index.specs.Groups.{AreGroups}
 use Rattle.cdxj_index.specs.Maps.{entry_of, shown_all}
-use Rattle.cdxj_index.specs.Order.{moment_of}
+use Rattle.index_entry.specs.Order.{moment_of}
 use Rattle.cdxj_index.proofs.Grouped.{appended_apart, appended_first, appended_there, last_group, other_key, same_key}
 use Rattle.cdxj_index.proofs.entry_map.groups.append.Goals as goal
 

@@ -1,5 +1,5 @@
 use Rattle.std.proofs.Common.{ap, ◌∙◌}
-use Rattle.cdxj_index.specs.Facts.{Facts}
+use Rattle.index_entry.specs.Facts.{Facts}
 use Rattle.cdxj_index.proofs.Grouped.{one_group}
 use Rattle.cdxj_index.proofs.entry_map.groups.group_of.Goals as goal
 

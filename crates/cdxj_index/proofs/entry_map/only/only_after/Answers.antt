@@ -1,5 +1,5 @@
 use Rattle.std.proofs.Common.{◌<◌, ap, subst, sym, ◌∙◌}
-use Rattle.cdxj_index.specs.Facts.{Facts}
+use Rattle.index_entry.specs.Facts.{Facts}
 use Rattle.cdxj_index.specs.declared.entry_map.captures.Captures.TheVariants.{One}
 use Rattle.cdxj_index.specs.Maps.{IsFirstAfter}
 use Rattle.cdxj_index.proofs.Sides.{one_after}

@@ -1,6 +1,6 @@
 use Rattle.std.proofs.Common.{ap, sym, ◌∙◌}
-use Rattle.cdxj_index.specs.Facts.{Facts}
-use Rattle.cdxj_index.specs.Queries.{with_number}
+use Rattle.index_entry.specs.Facts.{Facts}
+use Rattle.index_entry.specs.Queries.{with_number}
 use Rattle.cdxj_index.proofs.Calls.{added, undone}
 use Rattle.cdxj_index.proofs.index.Index.add_shared.Goals as goal
 

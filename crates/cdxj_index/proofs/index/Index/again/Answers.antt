@@ -2,10 +2,10 @@ use Rattle.std.proofs.Common.{◌≡◌, ◌++◌, ◌∷◌, ap, subst, sym, �
 use Rattle.std.specs.Prelude.{IfOk}
 use Rattle.std.specs.BTreeMap.{get}
 use Rattle.std.specs.Ordering.{nat_cmp}
-use Rattle.cdxj_index.specs.Facts.{Facts}
+use Rattle.index_entry.specs.Facts.{Facts}
 use Rattle.cdxj_index.specs.Groups.{AreGroups}
 use Rattle.cdxj_index.specs.Maps.{AreNumbers, by_numbers, entry_of, shown_all, values_shown}
-use Rattle.cdxj_index.specs.Queries.{IsIndex}
+use Rattle.index_entry.specs.Queries.{IsIndex}
 use Rattle.cdxj_index.proofs.Built.{all_taken, held_next, next_behind, next_taken}
 use Rattle.cdxj_index.proofs.Calls.{is_index}
 use Rattle.cdxj_index.proofs.Grouped.{AreGroups-none}

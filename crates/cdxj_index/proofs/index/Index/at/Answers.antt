@@ -1,7 +1,7 @@
 use Rattle.std.proofs.Common.{Some, ap, ◌∙◌}
 use Rattle.std.specs.Prelude.{option_copied, option_map}
 use Rattle.cdxj_index.specs.Maps.{entries_of, entry_of}
-use Rattle.cdxj_index.specs.Queries.{with_number}
+use Rattle.index_entry.specs.Queries.{with_number}
 use Rattle.cdxj_index.proofs.Numbers.{numbered-is}
 use Rattle.cdxj_index.proofs.index.Index.at.Goals as goal
 

@@ -1,5 +1,5 @@
 use Rattle.std.proofs.Common.{subst}
-use Rattle.cdxj_index.specs.Queries.{IsIndex}
+use Rattle.index_entry.specs.Queries.{IsIndex}
 use Rattle.cdxj_index.proofs.Calls.{is_index}
 use Rattle.cdxj_index.proofs.index.Index.len.Goals as goal
 

@@ -1,7 +1,7 @@
 use Rattle.std.proofs.Common.{arith, ap, subst, sym}
-use Rattle.cdxj_index.specs.Facts.{Facts}
+use Rattle.index_entry.specs.Facts.{Facts}
 use Rattle.cdxj_index.specs.Maps.{HasNoneFrom, IsFirstAfter, IsFirstFrom, IsLastUntil}
-use Rattle.cdxj_index.specs.Queries.{HasNone, IsNearest}
+use Rattle.index_entry.specs.Queries.{HasNone, IsNearest}
 use Rattle.cdxj_index.proofs.Calls.{after_date, at_none, at_some, both_after, both_before, if_none_weaker, if_some_weaker, only_after, only_before, some_from, until_date}
 use Rattle.cdxj_index.proofs.Nearest.{nearest-no_key, nearest-nothing}
 use Rattle.cdxj_index.proofs.Sides.{on_none}

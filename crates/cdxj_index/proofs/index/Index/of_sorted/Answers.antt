@@ -2,10 +2,10 @@ use Rattle.std.proofs.Common.{◌≡◌, ◌<◌, ◌+◌, ◌++◌, List, Some,
 use Rattle.std.specs.Prelude.{IfOk, slice_get}
 use Rattle.std.specs.Global.{Vec}
 use Rattle.std.proofs.lemmas.List.{drop_all}
-use Rattle.cdxj_index.specs.Facts.{Facts}
+use Rattle.index_entry.specs.Facts.{Facts}
 use Rattle.cdxj_index.specs.Groups.{AreGroups}
 use Rattle.cdxj_index.specs.Maps.{by_numbers, entry_of, shown_all, values_shown}
-use Rattle.cdxj_index.specs.Queries.{IsIndex}
+use Rattle.index_entry.specs.Queries.{IsIndex}
 use Rattle.cdxj_index.proofs.Built.{all_taken, left_from, next_behind, next_taken}
 use Rattle.cdxj_index.proofs.Grouped.{AreGroups-none}
 use Rattle.cdxj_index.proofs.index.Index.of_sorted.Goals as goal

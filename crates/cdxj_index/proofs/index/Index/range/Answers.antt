@@ -1,5 +1,5 @@
 use Rattle.std.proofs.Common.{ap, ◌∙◌}
-use Rattle.cdxj_index.specs.Queries.{of_key}
+use Rattle.index_entry.specs.Queries.{of_key}
 use Rattle.cdxj_index.proofs.index.Index.range.Goals as goal
 
 pub range-requires : goal.range-requires

@@ -1,6 +1,6 @@
 use Rattle.std.proofs.Common.{ap, sym, ◌∙◌}
-use Rattle.cdxj_index.specs.Facts.{Facts}
-use Rattle.cdxj_index.specs.Order.{without}
+use Rattle.index_entry.specs.Facts.{Facts}
+use Rattle.index_entry.specs.Order.{without}
 use Rattle.cdxj_index.proofs.Calls.{taken, taken_nothing}
 use Rattle.cdxj_index.proofs.index.Index.take_back.Goals as goal
 

@@ -10,7 +10,7 @@ use Rattle.archive_core.proofs.StoodLaws.{keeps_fills}
 use Rattle.archive_index.specs.Shown.{numbered}
 use Rattle.archive_core.specs.Told.{told_of}
 use Rattle.archive_shelf.proofs.CallLaws.{stored_goes_on}
-use Rattle.cdxj_index.specs.Facts.{Facts}
+use Rattle.index_entry.specs.Facts.{Facts}
 use Rattle.vault_turns.specs.Guarded.{Guarded, KeepsShown}
 use Rattle.vault_turns.specs.History.{by_of, is_told, told_book}
 use Rattle.vault_turns.specs.Noting.{Notes}

@@ -1,7 +1,7 @@
 -- A capture was given as a piece, or not.
 use Rattle.std.proofs.Common.{List, ap, subst, sym}
 use Rattle.std.specs.Prelude.{Contains}
-use Rattle.cdxj_index.specs.Facts.{Facts}
+use Rattle.index_entry.specs.Facts.{Facts}
 use Rattle.archive_shelf.specs.Answers.{is_bring_fault}
 use Rattle.archive_shelf.specs.Contents.{Contents}
 use Rattle.archive_core.proofs.ShelfLaws.{reads_on}

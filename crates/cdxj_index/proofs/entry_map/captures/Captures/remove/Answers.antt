@@ -3,7 +3,7 @@ use Rattle.std.specs.BTreeMap.{Updates}
 use Rattle.std.specs.Box.{with_value}
 use Rattle.cdxj_index.specs.declared.entry_map.captures.Captures.TheVariants.{Many}
 use Rattle.cdxj_index.specs.Maps.{Changes}
-use Rattle.cdxj_index.specs.Order.{moment_cmp}
+use Rattle.index_entry.specs.Order.{moment_cmp}
 use Rattle.cdxj_index.proofs.Changes.{many_changed}
 use Rattle.cdxj_index.proofs.entry_map.captures.Captures.remove.Goals as goal
 

@@ -1,7 +1,7 @@
 -- An entry, and the line of its capture.
 use Rattle.std.specs.Prelude.{ℕ, List}
 use Rattle.cdxj_line.specs.declared.line.Line.{Line}
-use Rattle.cdxj_index.specs.Facts.{Facts}
+use Rattle.index_entry.specs.Facts.{Facts}
 
 -- what a line tells of its capture, but for the method
 abbrev pub facts_of : Line → Facts

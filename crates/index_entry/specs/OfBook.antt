@@ -21,8 +21,8 @@ use Rattle.warc_text.specs.Records.{info_text, answer_text}
 use Rattle.warc_text.specs.References.{reference_of}
 use Rattle.warc_text.specs.declared.id.IdKind.TheVariants.{Response}
 use Rattle.warc_text.specs.declared.same_of.SameOf.{SameOf}
-use Rattle.cdxj_index.specs.Facts.{Facts}
-use Rattle.cdxj_index.specs.Queries.{IsIndex}
+use Rattle.index_entry.specs.Facts.{Facts}
+use Rattle.index_entry.specs.Queries.{IsIndex}
 
 -- the media type of an entry: that of a revisit is its own
 abbrev pub mime_by : Kept → List NamedValue → List ℕ

@@ -8,8 +8,8 @@ use Rattle.std.specs.Ordering.{nat_cmp, is_eq, ordering_then}
 use Rattle.std.proofs.lemmas.Cmp.{ranked, nat_cmp_total, on_total, then_total, nat_list_cmp_total}
 use Rattle.std.proofs.lemmas.Map.Text.{is_eq-slice_cmp}
 use Rattle.std.proofs.lemmas.Slice.Eq.{bytes_eq-Decides}
-use Rattle.cdxj_index.specs.Facts.{Facts}
-use Rattle.cdxj_index.specs.Order.{Moment, moment_of, moment_cmp, order}
+use Rattle.index_entry.specs.Facts.{Facts}
+use Rattle.index_entry.specs.Order.{Moment, moment_of, moment_cmp, order}
 
 pub moment_total : IsTotalOrder moment_cmp
 moment_total = then_total (on_total (λ (m : Moment). m.0) nat_cmp_total) (on_total (λ (m : Moment). m.1) nat_cmp_total)

@@ -1,5 +1,5 @@
 //! What the definitions promise to those who build on them.
-ghost use Rattle.cdxj_index.specs.OfBook.{BooksHaveOneIndex, BooksHaveOneListOfEntries};
+ghost use Rattle.index_entry.specs.OfBook.{BooksHaveOneIndex, BooksHaveOneListOfEntries};
 
 use warc_text::numbers_have_one_group;
 

@@ -20,11 +20,11 @@ use Rattle.warc_text.specs.Books.{joined}
 use Rattle.warc_text.specs.Growth.{NumbersHaveOneGroup}
 use Rattle.warc_text.specs.Records.{info_text}
 use Rattle.warc_text.specs.declared.same_of.SameOf.{SameOf}
-use Rattle.cdxj_index.specs.Facts.{Facts}
-use Rattle.cdxj_index.specs.Order.{order}
-use Rattle.cdxj_index.specs.OfBook.{mime_by, record_of, IsBefore, IsEntryOf, AreOf, by_number, BooksHaveOneIndex, BooksHaveOneListOfEntries}
-use Rattle.cdxj_index.proofs.Members.{Among, among_from_contains, contains_from_among, same_from_members}
-use Rattle.cdxj_index.proofs.Orders.{order_total}
+use Rattle.index_entry.specs.Facts.{Facts}
+use Rattle.index_entry.specs.Order.{order}
+use Rattle.index_entry.specs.OfBook.{mime_by, record_of, IsBefore, IsEntryOf, AreOf, by_number, BooksHaveOneIndex, BooksHaveOneListOfEntries}
+use Rattle.index_entry.proofs.Members.{Among, among_from_contains, contains_from_among, same_from_members}
+use Rattle.index_entry.proofs.Orders.{order_total}
 
 -- ---- a capture stands in one volume, at one place
 

@@ -6,11 +6,11 @@ use Rattle.std.specs.List.{AllByRecursion}
 use Rattle.std.specs.List.Sorted.{IsStrictlySortedBy}
 use Rattle.std.specs.Ordering.{is_lt, ordering_reverse}
 use Rattle.std.proofs.lemmas.Bool.{eqb-false, eqb-true}
-use Rattle.cdxj_index.specs.Facts.{Facts}
-use Rattle.cdxj_index.specs.Order.{order, comes_before, with_entry, without}
-use Rattle.cdxj_index.specs.Queries.{with_number}
-use Rattle.cdxj_index.proofs.Orders.{order_total}
-use Rattle.cdxj_index.proofs.Members.{Among, all_among, all_from_among, Among-filter, Among-filter_back}
+use Rattle.index_entry.specs.Facts.{Facts}
+use Rattle.index_entry.specs.Order.{order, comes_before, with_entry, without}
+use Rattle.index_entry.specs.Queries.{with_number}
+use Rattle.index_entry.proofs.Orders.{order_total}
+use Rattle.index_entry.proofs.Members.{Among, all_among, all_from_among, Among-filter, Among-filter_back}
 
 -- the entries are in strict order
 abbrev pub InOrder : List Facts → Type 0

@@ -1,18 +1,20 @@
 //! What the index knows of a capture.
 ghost use Rattle.std.specs.Prelude.{◌≡◌, ◌<◌, ◌^◌, IfOk};
-ghost use Rattle.cdxj_index.specs.OfLine.{facts_of, line_at};
-ghost use Rattle.cdxj_index.specs.Order.{moment_of};
+ghost use Rattle.index_entry.specs.OfLine.{facts_of, line_at};
+ghost use Rattle.index_entry.specs.Order.{moment_of};
 ghost use Rattle.cdxj_line.specs.Lines.{IsWritable};
 ghost use Rattle.cdxj_line.specs.Parts.{line_of};
 ghost use Rattle.time_text.specs.Texts.{InRange};
 
-use crate::entry_map::Moment;
 use capture::{Digest, Memory, Text};
 use cdxj_line::{Line, LineParts};
 use short_text::ShortText;
 use std::alloc::Global;
 use std::marker::Model;
 use surt_key::Key;
+
+/// A date, in milliseconds since 1970, and a number within the date.
+pub type Moment = (u64, u32);
 
 /// A capture in the index. A clause sees its parts.
 ///
@@ -42,7 +44,7 @@ pub struct Entry {
 }
 
 impl Model for Entry {
-    ghost use Rattle.cdxj_index.specs.Facts.{Facts, IsEntry};
+    ghost use Rattle.index_entry.specs.Facts.{Facts, IsEntry};
 
     ghost Value = { Facts };
 
@@ -157,7 +159,7 @@ impl Entry {
     }
 
     /// Its place among the entries of its key.
-    pub(crate) fn moment(&self) -> Moment
+    pub fn moment(&self) -> Moment
         ensures value { result ≡ moment_of self.now }
         ensures fits { result.1 < 2 ^ 32 }
     {
@@ -166,7 +168,7 @@ impl Entry {
 }
 
 /// The number of an entry, as the result of a call, of which the checker knows the range.
-pub(crate) fn number_of(entry: &Entry) -> u32
+pub fn number_of(entry: &Entry) -> u32
     ensures number { result ≡ entry.now.number }
     ensures fits { result < 2 ^ 32 }
 {

@@ -1,5 +1,5 @@
-use Rattle.cdxj_index.proofs.OneIndex as one
-use Rattle.cdxj_index.proofs.laws.books_have_one_index.Goals as goal
+use Rattle.index_entry.proofs.OneIndex as one
+use Rattle.index_entry.proofs.laws.books_have_one_index.Goals as goal
 
 pub returns-clause-index : goal.returns-clause-index
 returns-clause-index c = one.books_have_one_index c.numbers_have_one_group.ensures

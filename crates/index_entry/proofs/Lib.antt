@@ -1,0 +1,4 @@
+pub mod Entries
+pub mod Members
+pub mod OneIndex
+pub mod Orders
