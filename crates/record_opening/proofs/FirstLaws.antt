@@ -119,4 +119,3 @@ module _ (namespace : List ℕ) (number : ℕ) (bytes : List ℕ) where
       subst (λ t. Begins t bytes) (sym (some_text_begins id)) (begun_begins (drop 1 (some_text id)) bytes (some_text_goes_on id) begun) in
       let ends = begins_ends (some_text id ++ length_lines 0) bytes (begins_more (some_text id) (length_lines 0) bytes begins) in
       (((some_opening, 0), (some_opening_is, omega arith), ends), refl)
-

@@ -1,5 +1,5 @@
 -- A block and what stands behind it, or why none is read.
-use Rattle.std.specs.Prelude.{◌≡◌, ℕ, ◌+◌, ◌<◌, ◌^◌, List, ◌++◌, length, ⊤}
+use Rattle.std.specs.Prelude.{◌≡◌, ℕ, ◌<◌, ◌^◌, List, ◌++◌, length, ⊤}
 use Rattle.warc_text.specs.Lines.{ended, length_lines}
 use Rattle.record_opening.specs.OpenValues.{EndsInside}
 use Rattle.record_opening.specs.Stops.{Refuses}

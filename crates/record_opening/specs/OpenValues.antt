@@ -1,6 +1,6 @@
 -- Which bytes may be the beginning of a value in a record's opening or in a warcinfo, where such a value begins, and when bytes end
 -- inside a text.
-use Rattle.std.specs.Prelude.{◌≡◌, ◌⊎◌, ℕ, ◌<◌, ◌^◌, List, [], ◌++◌, codes, decimal, IsTrue, ◌+◌, length}
+use Rattle.std.specs.Prelude.{◌≡◌, ◌⊎◌, ℕ, ◌<◌, ◌^◌, List, [], ◌++◌, codes, decimal, IsTrue, length}
 use Rattle.capture.specs.Target.{is_target_text}
 use Rattle.record_opening.specs.Forms.{IsPartOfForm, date_form, digest_form, uuid_form}
 

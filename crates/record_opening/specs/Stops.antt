@@ -1,5 +1,5 @@
 -- Why bytes don't begin with a text, whatever follows them.
-use Rattle.std.specs.Prelude.{◌≡◌, ◌⊎◌, ℕ, ◌+◌, ◌<◌, ◌≤◌, Bool, true, false, List, ◌++◌, length, ⊤, if◌then◌else◌}
+use Rattle.std.specs.Prelude.{◌≡◌, ◌⊎◌, ℕ, ◌+◌, ◌<◌, ◌≤◌, Bool, true, false, List, ◌++◌, length, ⊤}
 use Rattle.record_opening.specs.OpenValues.{Begins, EndsInside}
 use Rattle.record_opening.specs.declared.no_record.NoRecord.{NoRecord}
 use Rattle.record_opening.specs.declared.no_record.NoRecord.TheVariants as no_record

@@ -14,8 +14,8 @@ ghost use Rattle.warc_scan.specs.Groups.{HasPayloadLen, IsResponse};
 
 use crate::wire_digest::summary_in;
 use capture::{Digest, Framing};
-use http_head::is_short_head;
-use http_wire::{ResponseHead, WireFault, find_head_end, framing_of, read_head};
+use http_head::{ResponseHead, WireFault, find_head_end, is_short_head, read_head};
+use message_body::framing_of;
 use record_opening::{Opening, Stop};
 use std::alloc::Global;
 

@@ -12,13 +12,14 @@ ghost use Rattle.warc_scan.specs.declared.group.Group.{Group as GroupForm};
 
 use crate::answer::{Answer, read_answer};
 use capture::Text;
-use http_wire::{WireFault, request_method_in};
+use http_head::WireFault;
 use record_opening::{
     Front, NoRecord, Opening, Stop, front_of, read_opening, split_block, strip_request_opening,
 };
 use std::alloc::Global;
 use uuid::Uuid;
 use warc_text::{IdKind, id_of};
+use whole_request::request_method_in;
 
 /// The two line ends behind a block.
 pub const RECORD_END: u64 = 4;

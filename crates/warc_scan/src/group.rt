@@ -1,6 +1,6 @@
 //! The group of a capture, as it stands in a volume.
 use capture::{Digest, Stored, Text};
-use http_wire::ResponseHead;
+use http_head::ResponseHead;
 use url::Url;
 use uuid::Uuid;
 

@@ -1,7 +1,7 @@
 //! What a group tells without the bodies of its messages.
 use crate::Revisited;
 use capture::{Digest, Text};
-use http_wire::ResponseHead;
+use http_head::ResponseHead;
 
 /// A capture's two records, without the bodies of their messages. Places and lengths are in bytes, from the group's first byte
 /// on.

@@ -5,10 +5,10 @@ ghost use Rattle.warc_scan.specs.steps.Founds.{HasMessages, IsFound, MakesOutlin
 ghost use Rattle.warc_scan.specs.Outlines.{BeginsWithOutline};
 ghost use Rattle.warc_scan.specs.Answers.{TellsNoGroup};
 
+use crate::Outline;
 use crate::answer::Answer;
 use crate::copy::{copy_revisited, copy_target};
 use crate::find::{Found, RECORD_END, Read, read_first};
-use crate::Outline;
 use capture::{Memory, Text};
 use record_opening::NoRecord;
 use std::alloc::Global;

@@ -7,7 +7,7 @@ ghost use Rattle.warc_scan.specs.steps.Responses.{IsMessageStop};
 
 use capture::{Digest, Framing};
 use digest32::payload_digest;
-use http_wire::{PayloadFault, payload_in};
+use message_body::{PayloadFault, payload_in};
 use record_opening::Stop;
 use std::alloc::Global;
 

@@ -11,7 +11,6 @@ use Rattle.record_opening.specs.declared.no_record.NoRecord.{NoRecord}
 use Rattle.record_opening.specs.declared.no_record.NoRecord.TheVariants as no_record
 use Rattle.record_opening.specs.declared.stop.Stop.{Stop}
 use Rattle.record_opening.specs.declared.stop.Stop.TheVariants.{Open, Until, Wrong, Memory}
-use Rattle.record_opening.specs.declared.info_step.InfoStep.{InfoStep}
 use Rattle.warc_scan.specs.steps.Responses.{IsAnswerOf, IsRead, kept_by}
 use Rattle.warc_scan.specs.Groups.{HasPayloadLen, reference_in}
 use Rattle.warc_scan.specs.declared.group.Group.{Group}

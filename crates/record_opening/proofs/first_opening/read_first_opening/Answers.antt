@@ -1,4 +1,3 @@
-use Rattle.std.proofs.Common.{[]}
 use Rattle.warc_text.specs.Lines.{length_lines}
 use Rattle.record_opening.specs.FirstOpenings.{IsFirst, first_lines}
 use Rattle.record_opening.specs.Openings.{opening_of}

@@ -1,12 +1,12 @@
 use Rattle.std.proofs.Common.{◌++◌, length, Err, sym, ap, subst, ◌∙◌, arith, take-append-drop}
 use Rattle.capture.proofs.HeadLaws.{response_heads_end}
 use Rattle.capture.specs.WellFormed.{IsFinalHead}
-use Rattle.http_wire.proofs.HeadEnds.{end_fits}
+use Rattle.http_head.proofs.FrontLaws.{end_fits}
 use Rattle.warc_scan.proofs.AnswerHeads.{ends_there, final_status, parts_end, split_there}
 use Rattle.warc_scan.proofs.answer.split_head.Goals as goal
 
 pub split_at-requires : goal.split_at-requires
-split_at-requires c = end_fits c.args.block.now c.in-Some.end c.in-Some.ensures
+split_at-requires c = end_fits c.args.block.now c.in-Some.end (sym c.in-Some.ensures)
 
 pub returns-in_default-clause-wrong : goal.returns-in_default-clause-wrong
 returns-in_default-clause-wrong c = λ is head wire parsed composed final.
