@@ -1,6 +1,7 @@
 mod Appending
 mod Bytes
 mod Closing
+mod Lengths
 mod Mending
 mod Putting
 mod Results
