@@ -1,12 +1,11 @@
 -- What stands next in a file, of all that it has there.
-use Rattle.std.specs.Prelude.{◌≡◌, ◌<◌, ◌≤◌, ℕ, List, [], ⊤, length}
+use Rattle.std.specs.Prelude.{◌≡◌, ◌<◌, ◌≤◌, ℕ, List, [], ⊤}
 use Rattle.capture.specs.Tails.{IsCommitted, IsTail}
 use Rattle.record_opening.specs.Infos.{IsInfo}
 use Rattle.warc_scan.specs.Answers.{BeginsWithGroup}
 use Rattle.record_opening.specs.InfoAnswers.{BeginsWithInfo}
 use Rattle.warc_scan.specs.Headed.{HasItsParts}
 use Rattle.warc_scan.specs.declared.group.Group.{Group as GroupFound}
-use Rattle.warc_text.specs.Records.{info_most}
 use Rattle.warc_text.specs.StandsFor.{commit_byte}
 use Rattle.volume_scan.specs.declared.next.NextGroup.{NextGroup}
 use Rattle.volume_scan.specs.declared.next.NextGroup.TheVariants as next_group
@@ -58,8 +57,8 @@ abbrev pub Asks : ℕ → ℕ → Unsaid → Type 0
 Asks read room (Need n) = (read < n) × (n ≤ room)
 Asks read room Memory = ⊤
 
--- what is known of the file behind the last volume's: it is empty, or holds a tail that is no longer than a warcinfo may be
+-- what is known of the file behind the last volume's: it is empty, or holds a tail
 abbrev pub IsFurther : Further → List ℕ → Type 0
 IsFurther Absent file = ⊥
 IsFurther Empty file = file ≡ []
-IsFurther Unknown file = IsTail commit_byte file × (length file ≤ info_most)
+IsFurther Unknown file = IsTail commit_byte file

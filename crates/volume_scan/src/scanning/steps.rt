@@ -21,7 +21,6 @@ use std::alloc::Global;
 use uuid::Uuid;
 use warc_journal::{Further, Place};
 use warc_scan::HeadedGroup;
-use warc_text::INFO_MOST;
 
 impl<D: Disk> Scanning<D> {
     /// What stands behind what was read: a group, or what a volume's end may be followed by.
@@ -115,15 +114,7 @@ impl<D: Disk> Scanning<D> {
                 Ok(self.open(volume, namespace, born, len))
             }
             NextInfo::Nothing => self.end_before(volume, is_dirty, Further::Empty),
-            NextInfo::Tail => {
-                if self.window.len() > INFO_MOST {
-                    return Err(ScanFault::Damaged {
-                        file: volume,
-                        place: 0,
-                    });
-                }
-                self.end_before(volume, is_dirty, Further::Unknown)
-            }
+            NextInfo::Tail => self.end_before(volume, is_dirty, Further::Unknown),
             NextInfo::Damaged => Err(ScanFault::Damaged {
                 file: volume,
                 place: 0,
@@ -131,8 +122,8 @@ impl<D: Disk> Scanning<D> {
         }
     }
 
-    /// The end, before a file that holds nothing or a tail. It has to be the last one, and a volume that was skipped has to
-    /// be followed by another.
+    /// The end, before a file that holds nothing or a tail. That is no longer than a warcinfo may be and has to be the last
+    /// one, and a volume that was skipped has to be followed by another.
     fn end_before(
         &mut self,
         file: u32,
@@ -143,12 +134,16 @@ impl<D: Disk> Scanning<D> {
         requires not_done { (position_of self.old).stage ≢ IsDone }
         requires file { file ≡ (position_of self.old).extent.volumes }
         requires there { file < file_count self.old }
+        requires len { IsTrue D.tells → self.old.window.len ≡ length (file_at (files_in D.Disk self.old) file) }
         requires behind { IsTrue D.tells → IsBehind is_dirty (unread (position_of self.old) (files_in D.Disk self.old)) }
         requires holds { IsTrue D.tells → IsFurther further (file_at (files_in D.Disk self.old) file) }
         ensures comes { Comes D.Disk self.old self.new result }
         ensures headed { IfOk result IsHeaded }
     {
         if let Stage::Skipped = self.position.stage {
+            return Err(ScanFault::Damaged { file, place: 0 });
+        }
+        if self.window.is_long() {
             return Err(ScanFault::Damaged { file, place: 0 });
         }
         let last = self.files - 1;
