@@ -12,6 +12,7 @@ use Rattle.warc_scan.specs.Groups.{reference_in}
 use Rattle.warc_scan.specs.Outlines.{BeginsWithOutline}
 use Rattle.warc_scan.specs.declared.group.Group.{Group}
 use Rattle.warc_scan.specs.declared.outline.Outline.{Outline}
+use Rattle.warc_text.specs.Records.{info_most}
 use Rattle.warc_text.specs.StandsFor.{commit_byte}
 use Rattle.warc_text.proofs.GroupLaws.{groups_are_committed}
 use Rattle.warc_text.proofs.InfoLaws.{info_front, infos_are_committed}
@@ -141,7 +142,7 @@ info_fits volume bytes namespace born len begins =
     omega (arith, begins.is.len_is, ap length begins.composed, length-append begins.text begins.rest)
 
 -- no more is asked for than a warcinfo may have, so that enough was read
-pub info_is_read : (read room n : ℕ) → nat_lt read room ≡ true → min 512 room ≤ read → read < n → n ≤ 512 → ⊥
+pub info_is_read : (read room n : ℕ) → nat_lt read room ≡ true → min info_most room ≤ read → read < n → n ≤ info_most → ⊥
 info_is_read read room n more enough needs little = omega (arith, ltb-true read room more, enough, needs, little)
 
 -- what stands behind a place, of the bytes that were read and of all that there are
