@@ -1,12 +1,11 @@
 -- What is told of threads, and of a server that has them or not.
-use Rattle.std.proofs.Common.{◌≡◌, ◌≢◌, ◌⊎◌, ℕ, ◌-◌, ◌^◌, ◌<◌, ◌≤◌, List, Option, Some, None, Result, Ok, Err, refl, sym, ap, subst, ◌∙◌, inl, inr, arith}
+use Rattle.std.proofs.Common.{◌≡◌, ◌≢◌, ◌⊎◌, ℕ, ◌-◌, ◌^◌, ◌<◌, ◌≤◌, List, Option, Some, None, Result, Ok, Err, refl, sym, subst, ◌∙◌, inl, inr, arith}
 use Rattle.std.specs.Prelude.{IfErr, OnOk, ⊤}
 use Rattle.archive_reopening.specs.Known.{by_checkpoints}
 use Rattle.capture.specs.declared.book.Book.{Book}
 use Rattle.capture.specs.declared.site.Site.{Site}
 use Rattle.command.specs.Objects.{Kinds, Objects}
 use Rattle.command.specs.Printing.{Prints, PrintsAll}
-use Rattle.command.specs.Words.{asked_of}
 use Rattle.command.specs.declared.status.Status.{Status}
 use Rattle.command.specs.declared.status.Status.TheVariants.{Done, Memory, Outside}
 use Rattle.command.specs.declared.words.Command.{Command}
@@ -87,37 +86,25 @@ module _ {D G L P N M C O : Type 0} (kinds : Kinds D G L P N M C O) (known : Opt
     out = steady_behind kinds.sinks workers was.out out has is.out steady.out;
   }
 
-  served_in : (namespace : List ℕ) (site : Site) (workers : ℕ) (was is : Objects D G (List (N × C)) O) (out : O) (status : Status)
-      → HasThreads kinds.sinks workers was.out out
-      → Serves kinds known (record { asked = Some namespace; site = site; workers = workers }) (record was { out = out }) is status
-      ⊎ LacksShelves kinds known (Some namespace) (record was { out = out }) is status
-      ⊎ Refuses kinds (by_checkpoints was.disk (Some namespace) known) (record was { out = out }) is status
-      → Runs kinds known (Serve namespace workers) (Some site) was is status
-  served_in namespace site workers was is out status has served = inr (out, has, one_more served)
+  served_in : (namespace : List ℕ) (base : Site) (workers : ℕ) (was is : Objects D G (List (N × C)) O) (status : Status)
+      → Serves kinds known (record { asked = Some namespace; site = base; workers = workers }) was is status
+      ⊎ LacksShelves kinds known (Some namespace) was is status ⊎ Refuses kinds (by_checkpoints was.disk (Some namespace) known) was is status
+      → Runs kinds known (Serve namespace workers) (Some base) was is status
+  served_in namespace base workers was is status served = one_more served
 
-  pub runs_staffed : (command : Command) (namespace : List ℕ) (site : Site) (workers : ℕ) (was is : Objects D G (List (N × C)) O) (out : O) (status : Status)
-      → command ≡ Serve namespace workers → HasThreads kinds.sinks workers was.out out
-      → Serves kinds known (record { asked = asked_of command; site = site; workers = workers }) (record was { out = out }) is status
-      ⊎ LacksShelves kinds known (asked_of command) (record was { out = out }) is status
-      ⊎ Refuses kinds (by_checkpoints was.disk (asked_of command) known) (record was { out = out }) is status
-      → Runs kinds known command (Some site) was is status
-  runs_staffed command namespace site workers was is out status is_serve has served =
-      subst (λ (c : Command). Runs kinds known c (Some site) was is status) (sym is_serve)
-      (served_in namespace site workers was is out status has
-      (subst (λ (c : Command). Serves kinds known (record { asked = asked_of c; site = site; workers = workers }) (record was { out = out }) is status
-      ⊎ LacksShelves kinds known (asked_of c) (record was { out = out }) is status
-      ⊎ Refuses kinds (by_checkpoints was.disk (asked_of c) known) (record was { out = out }) is status) is_serve served))
-
-  pub runs_unstaffed : (command : Command) (namespace : List ℕ) (site : Site) (workers : ℕ) (was : Objects D G (List (N × C)) O) (out : O) (status : Status)
-      → command ≡ Serve namespace workers → LacksThreads kinds.sinks workers was.out out status
-      → Runs kinds known command (Some site) was (record was { out = out }) status
-  runs_unstaffed command namespace site workers was out status is_serve lacks =
-      subst (λ (c : Command). Runs kinds known c (Some site) was (record was { out = out }) status) (sym is_serve) (inl (lacks, refl))
+  pub runs_served : (command : Command) (namespace : List ℕ) (base : Site) (workers : ℕ) (site : Option Site) (was is : Objects D G (List (N × C)) O)
+      (status : Status) → command ≡ Serve namespace workers → Some base ≡ site
+      → Serves kinds known (record { asked = Some namespace; site = base; workers = workers }) was is status
+      ⊎ LacksShelves kinds known (Some namespace) was is status ⊎ Refuses kinds (by_checkpoints was.disk (Some namespace) known) was is status
+      → Runs kinds known command site was is status
+  runs_served command namespace base workers site was is status is_serve is_site served =
+      subst (λ (s : Option Site). Runs kinds known command s was is status) is_site
+      (subst (λ (c : Command). Runs kinds known c (Some base) was is status) (sym is_serve) (served_in namespace base workers was is status served))
 
   serve_lacking : (namespace : List ℕ) (workers : ℕ) (base : Option Site) (was : Objects D G (List (N × C)) O) (status : Status) → status ≡ Memory
       → Runs kinds known (Serve namespace workers) base was was status
   serve_lacking namespace workers None was status memory = inr (memory, refl)
-  serve_lacking namespace workers (Some base) was status memory = inr (was.out, inl refl, inr (inr (inr (memory, refl))))
+  serve_lacking namespace workers (Some base) was status memory = inr (inr (inr (memory, refl)))
 
   siteless : (namespace : List ℕ) (workers : ℕ) (site : Option Site) (was : Objects D G (List (N × C)) O) (out : O) (status : Status)
       → NamesNone kinds.sinks site was.out out status → Runs kinds known (Serve namespace workers) site was (record was { out = out }) status

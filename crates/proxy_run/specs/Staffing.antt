@@ -1,5 +1,5 @@
 -- What is told of the threads that there are for a server's workers.
-use Rattle.std.specs.Prelude.{◌≡◌, ◌⊎◌, ℕ, ◌<◌, List, ◌++◌, codes, decimal}
+use Rattle.std.specs.Prelude.{◌≡◌, ◌⊎◌, ℕ, ◌<◌, List, ◌++◌, Option, Some, None, codes, decimal}
 use Rattle.command.specs.Printing.{BreaksOff, LacksMemory, Prints, PrintsAll}
 use Rattle.command.specs.declared.status.Status.{Status}
 use Rattle.command.specs.declared.status.Status.TheVariants.{Done, Outside}
@@ -26,3 +26,14 @@ module _ {O : Type 0} (sinks : Sinks O) (workers : ℕ) where
       Prints sinks Outside no_thread was is status
       ⊎ ((there : ℕ) × (0 < there) × (there < workers)
       × (BreaksOff sinks (workers_line there workers) was is status ⊎ LacksMemory sinks was is status))
+
+module _ {O : Type 0} (sinks : Sinks O) where
+  -- where threads are looked for, there are some; else nothing is printed
+  abbrev pub IsStaffed : Option ℕ → O → O → Type 0
+  IsStaffed None was is = is ≡ was
+  IsStaffed (Some workers) was is = HasThreads sinks workers was is
+
+  -- they are looked for, and it ends there
+  abbrev pub IsUnstaffed : Option ℕ → O → O → Status → Type 0
+  IsUnstaffed None was is status = ⊥
+  IsUnstaffed (Some workers) was is status = LacksThreads sinks workers was is status

@@ -1,5 +1,5 @@
 //! The command `serve`: the connections of many clients over one archive.
-ghost use Rattle.std.specs.Prelude.{◌⊎◌, ◌≡◌, ◌<◌, ◌≤◌, ℕ, true, IfSome, IsTrue, List, Option, Some, length};
+ghost use Rattle.std.specs.Prelude.{◌⊎◌, ◌≡◌, ◌<◌, ◌≤◌, ℕ, true, IfSome, IsTrue, List, Option, length};
 ghost use Rattle.archive_core.specs.Holdings.{Holdings, contents_of};
 ghost use Rattle.archive_reopening.specs.Standing.{StoodOn};
 ghost use Rattle.archive_opening.specs.Telling.{MayBeSettled};
@@ -11,8 +11,6 @@ ghost use Rattle.disk_model.specs.Crash.{Leaves};
 ghost use Rattle.proxy_run.specs.Pipes.{Refuses};
 ghost use Rattle.proxy_run.specs.Serves.{LacksShelves, Serves};
 ghost use Rattle.command.specs.Words as spec;
-ghost use Rattle.command.specs.declared.words.Command.TheVariants.{Serve};
-ghost use Rattle.proxy_run.specs.Runs.{Runs};
 ghost use Rattle.proxy_run.specs.steps.Seating.{IsNameOf};
 ghost use Rattle.vault_turns.specs.Calm.{HasRightCheckpoints, IsCalm};
 ghost use Rattle.warc_journal.specs.Journals.{disk_of};
@@ -20,7 +18,6 @@ ghost use Rattle.warc_text.specs.Ids.{IsUuid};
 
 use crate::counting::tell_count;
 use crate::seating::serve_by;
-use crate::staffing::find_threads;
 use archive_core::{Archive, StoodTexts};
 use capture::Site;
 use command::{Command, Known, Ran, Status, asked_of, open_and_settle, settle_and_close, stood_on};
@@ -44,61 +41,10 @@ pub struct Service<'a> {
     pub workers: u32,
 }
 
-/// Serves as `serve_many` does, where there is a thread for one worker at least. For how many there is one is printed first, where these are
-/// fewer than were asked for. May wait.
-pub fn serve_by_threads<K, R, D, G, N, C, O>(
-    rt: &R,
-    alloc: Global,
-    service: Service,
-    disk: D,
-    gate: &mut G,
-    crew: &mut Vec<(N, C)>,
-    out: &mut O,
-) -> Ran<D>
-where
-    K: Known,
-    R: Threads + Wait + Sync,
-    D: Disk + Send,
-    G: Gate + Send,
-    G::Link: Send,
-    G::Past: Send,
-    N: Dialer + Send,
-    N::Link: Send,
-    C: Clock + Send,
-    O: Sink,
-    requires named { (namespace : List ℕ) × (service.command ≡ Serve namespace service.workers) }
-    requires uuid { IfSome (spec.asked_of service.command) IsUuid }
-    requires known { MayBeSettled D.Disk disk (spec.asked_of service.command) K.book }
-    requires some { 0 < service.workers }
-    requires few { service.workers ≤ 16 }
-    requires enough { service.workers ≤ length crew.old.items }
-    ensures { let kinds = kinds_of D.Disk G.Gate N.Dialer C.Clock O.Sink G.Link.tells N.Link.tells in
-        let was = objects_of disk gate.old crew.old.items out.old in
-        let is = objects_of result.disk gate.new crew.new.items out.new in
-        Runs kinds K.book service.entry.command (Some service.entry.site.now) was is result.status }
-{
-    let Service {
-        command,
-        site,
-        workers,
-    } = service;
-    match find_threads(rt, alloc, workers, out) {
-        Ok(()) => {
-            let service = Service {
-                command,
-                site,
-                workers,
-            };
-            serve_many::<K, R, D, G, N, C, O>(rt, alloc, service, disk, gate, crew, out)
-        }
-        Err(status) => Ran { status, disk },
-    }
-}
-
 /// Opens the archive on the disk by its checkpoints, in the namespace that the command names, writes those that are missing, serves the gate's
 /// connections over it by so many members of the crew until the gate is closed, prints how many captures there are, writes the checkpoints that
 /// are missing by then, and closes the archive. What stops a checkpoint changes nothing else. May wait.
-fn serve_many<K, R, D, G, N, C, O>(
+pub fn serve_many<K, R, D, G, N, C, O>(
     rt: &R,
     alloc: Global,
     service: Service,

@@ -2,14 +2,15 @@
 use Rattle.std.proofs.Common.{◌≡◌, ℕ, ◌<◌, ◌≤◌, List, length, refl, subst, arith}
 use Rattle.std.specs.Prelude.{IfSome, drop, set}
 use Rattle.archive_opening.specs.Telling.{MayBeSettled}
+use Rattle.command.specs.Base.{site_among}
 use Rattle.command.specs.Objects.{kinds_of, objects_of}
-use Rattle.command.specs.Words.{asked_of, workers_of}
+use Rattle.command.specs.Words.{asked_of, texts, workers_of}
 use Rattle.warc_text.specs.Ids.{IsUuid}
 use Rattle.command.specs.declared.words.Command.{Command}
 use Rattle.command.specs.declared.words.Command.TheVariants.{Serve}
 use Rattle.crew.proofs.CrewLaws.{first_is, first_set}
 use Rattle.proxy_run.proofs.RunLaws.{follow_siteless, runs_check, runs_follow, runs_import, runs_pipe, runs_trial, runs_verify}
-use Rattle.proxy_run.proofs.StaffLaws.{serve_siteless}
+use Rattle.proxy_run.proofs.StaffLaws.{runs_served, serve_siteless}
 use Rattle.proxy_run.proofs.running.run_named.Goals as goal
 
 pub returns-in-Check : goal.returns-in-Check
@@ -70,24 +71,31 @@ workers_within : (command : Command) (namespace : List ℕ) (workers : ℕ) → 
     → IfSome (workers_of command) (λ n. (0 < n) × (n ≤ 16)) → (0 < workers) × (workers ≤ 16)
 workers_within command namespace workers is within = subst (λ c. IfSome (workers_of c) (λ n. (0 < n) × (n ≤ 16))) is within
 
-pub serve_by_threads-requires-clause-named : goal.serve_by_threads-requires-clause-named
-serve_by_threads-requires-clause-named g c = λ κs outlives. (c.in-Serve.field-0, refl)
+pub serve_many-requires-clause-uuid : goal.serve_many-requires-clause-uuid
+serve_many-requires-clause-uuid g c = λ κs outlives. subst (λ command. IfSome (asked_of command) IsUuid) c.in-Serve.is c.requires.uuid
 
-pub serve_by_threads-requires-clause-uuid : goal.serve_by_threads-requires-clause-uuid
-serve_by_threads-requires-clause-uuid g c = λ κs outlives. subst (λ command. IfSome (asked_of command) IsUuid) c.in-Serve.is c.requires.uuid
+pub serve_many-requires-clause-some : goal.serve_many-requires-clause-some
+serve_many-requires-clause-some g c = λ κs outlives. (workers_within _ _ _ c.in-Serve.is c.requires.workers).0
 
-pub serve_by_threads-requires-clause-some : goal.serve_by_threads-requires-clause-some
-serve_by_threads-requires-clause-some g c = λ κs outlives. (workers_within _ _ _ c.in-Serve.is c.requires.workers).0
+pub serve_many-requires-clause-few : goal.serve_many-requires-clause-few
+serve_many-requires-clause-few g c = λ κs outlives. (workers_within _ _ _ c.in-Serve.is c.requires.workers).1
 
-pub serve_by_threads-requires-clause-few : goal.serve_by_threads-requires-clause-few
-serve_by_threads-requires-clause-few g c = λ κs outlives. (workers_within _ _ _ c.in-Serve.is c.requires.workers).1
+pub serve_many-requires-clause-enough : goal.serve_many-requires-clause-enough
+serve_many-requires-clause-enough g c = λ κs outlives. omega (arith, (workers_within _ _ _ c.in-Serve.is c.requires.workers).1, c.requires.crew)
 
-pub serve_by_threads-requires-clause-enough : goal.serve_by_threads-requires-clause-enough
-serve_by_threads-requires-clause-enough g c = λ κs outlives. omega (arith, (workers_within _ _ _ c.in-Serve.is c.requires.workers).1, c.requires.crew)
-
-pub serve_by_threads-requires-clause-known : goal.serve_by_threads-requires-clause-known
-serve_by_threads-requires-clause-known g c = λ κs outlives.
+pub serve_many-requires-clause-known : goal.serve_many-requires-clause-known
+serve_many-requires-clause-known g c = λ κs outlives.
     subst (λ command. MayBeSettled g.D.Disk c.args.disk (asked_of command) g.K.Known.book) c.in-Serve.is c.requires.known
+
+pub returns-in-Ok-named_site : goal.returns-in-Ok-named_site
+returns-in-Ok-named_site g c =
+    let kinds = kinds_of g.D.Disk g.G.Gate g.N.Dialer g.C.Clock g.O.Sink g.G.Link.Link.tells g.N.Link.Link.tells in
+    let base = c.in-Ok-named_site.site in
+    let was = objects_of c.args.disk c.args.gate.now c.args.crew.now.members.items in
+    let is = objects_of c.serve_many.result.disk c.serve_many.new.gate c.serve_many.new.crew.items c.serve_many.new.out in
+    runs_served kinds g.K.Known.book c.args.named.command c.in-Serve.field-0 base c.in-Serve.workers (site_among (texts c.args.named.words.now))
+    (was c.args.out.now) is c.serve_many.result.status c.in-Serve.is c.in-Ok-named_site.ensures.site
+    (rw c.in-Ok-named_site.ensures.prints_nothing at c.serve_many.ensures)
 
 pub follow-requires-clause-uuid : goal.follow-requires-clause-uuid
 follow-requires-clause-uuid g c = c.requires.uuid
