@@ -8,8 +8,8 @@ use crate::counting::listed;
 use crate::held::Held;
 use crate::names::FileNames;
 use crate::open_files::OpenOne;
-use crate::opening::{check_at_name, open_one};
-use crate::reasons::{changed, unknown};
+use crate::opening::open_one;
+use crate::reasons::{changed, moved, stopped, unknown};
 use disk_model::Kind;
 use folder_model::{Access, Folder};
 use std::io;
@@ -68,7 +68,8 @@ impl<F: Folder, N: FileNames> Held<F, N> {
         Err(changed())
     }
 
-    /// Opens a file, and asks for its length. One that isn't known is another process's, or none.
+    /// Opens a file, and asks for its length. One that isn't known is another process's, or none. To be written none is opened once
+    /// one was replaced.
     fn opened(&mut self, kind: Kind, number: u32, access: Access) -> io::Result<OpenOne<F::File>>
         ensures this { IfOk result (λ one. (one.kind ≡ kind) × (one.number ≡ number)) }
         ensures open { IsTrue F.tells → IfOk result (IsOpen N.name F.name_of (F.past self.new.timed.folder)) }
@@ -78,10 +79,16 @@ impl<F: Folder, N: FileNames> Held<F, N> {
         if self.known(kind) <= number {
             return Err(unknown());
         }
+        if let Access::Update = access
+            && self.files.replaced
+        {
+            return Err(stopped());
+        }
         open_one::<F, N>(&mut self.timed.folder, self.alloc, kind, number, access)
     }
 
-    /// Keeps a file that is still at its name.
+    /// Keeps a file that is still at its name. Where the folder was moved it may be put back; where another file is at the name, this
+    /// process writes no more.
     pub(crate) fn keep_at_name(&mut self, one: OpenOne<F::File>) -> io::Result<()>
         requires others { IsTrue F.tells → AreHeld N.name F.name_of F.past self.old }
         requires open { IsTrue F.tells → IsOpen N.name F.name_of (F.past self.old.timed.folder) one }
@@ -89,8 +96,14 @@ impl<F: Folder, N: FileNames> Held<F, N> {
         ensures same { IsTrue F.tells → F.past self.new.timed.folder ≡ F.past self.old.timed.folder }
         ensures rest { self.new ≡ record self.old { timed = record self.old.timed { folder = self.new.timed.folder }; files = self.new.files } }
     {
-        let there = check_at_name(&mut self.timed.folder, &one.file);
-        self.files.keep_after(there, one)
+        if self.timed.folder.is_at_name(&one.file)? {
+            self.files.keep(one);
+            return Ok(());
+        }
+        if self.timed.folder.is_in_place()? {
+            self.files.replaced = true;
+        }
+        Err(moved())
     }
 
     /// Whether the folder surely has no file of this number.

@@ -29,6 +29,8 @@ pub struct OpenFiles<T> {
     pub written: Option<OpenOne<T>>,
     /// The one that was read last.
     pub read: Option<OpenOne<T>>,
+    /// Whether another file was found at the name of one that was open. None is opened to be written then: what it has isn't known.
+    pub replaced: bool,
 }
 
 impl<T: Drop> OpenFiles<T> {
@@ -40,6 +42,7 @@ impl<T: Drop> OpenFiles<T> {
         OpenFiles {
             written: None,
             read: None,
+            replaced: false,
         }
     }
 

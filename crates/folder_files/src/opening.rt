@@ -5,7 +5,7 @@ ghost use Rattle.folder_files.specs.OpenFiles.{IsOpen};
 
 use crate::names::FileNames;
 use crate::open_files::OpenOne;
-use crate::reasons::{check_in_place, files_of_others, inside, moved};
+use crate::reasons::{check_in_place, files_of_others, inside};
 use disk_model::Kind;
 use folder_model::{Access, Folder, read_whole};
 use std::alloc::Global;
@@ -92,14 +92,4 @@ pub fn read_open<F: Folder>(
 {
     inside(at, into.len(), one.len)?;
     read_whole(folder, &one.file, at, into)
-}
-
-/// Fails where an open file isn't at its name any more.
-pub(crate) fn check_at_name<F: Folder>(folder: &mut F, file: &F::File) -> io::Result<()>
-    ensures { IsTrue F.tells → F.past folder.new ≡ F.past folder.old }
-{
-    if folder.is_at_name(file)? {
-        return Ok(());
-    }
-    Err(moved())
 }

@@ -208,7 +208,7 @@ static OPEN: [Row; 13] = [
         &[
             REOPENED,
             ONE_WRITE,
-            "sync vol-000000.warc;look for vol-000000.warc;look for folder;look for folder;look for folder;look for folder;",
+            "sync vol-000000.warc;look for vol-000000.warc;look for folder;look for folder;look for folder;look for folder;look for folder;",
             "5",
         ],
     ),
@@ -220,7 +220,7 @@ static OPEN: [Row; 13] = [
         },
         Lock::Alone,
         &[FILES, CREATE, FILES],
-        &[THIRD_MADE, "look for folder;", "2"],
+        &[THIRD_MADE, "look for folder;look for folder;", "2"],
     ),
     // and from the fifth call on.
     (

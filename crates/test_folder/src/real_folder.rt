@@ -129,8 +129,8 @@ static READERS: Scene = (
     "2;0;0;failed;failed;",
 );
 
-/// What another run finds: beside a name that isn't UTF-8, where another file was put in the place of one, where the last
-/// file was removed by hand, and where the whole folder was. A file that is open can be written then.
+/// What another run finds: beside a name that isn't UTF-8, where another file was put in the place of one, to which nothing is
+/// written, where the last file was removed by hand, and where the whole folder was. A file that is open can be written then.
 static LATER: Scene = (
     &[
         MakesOddName,
@@ -143,6 +143,9 @@ static LATER: Scene = (
         Removes(FIRST_PATH),
         Puts(FIRST_PATH, "other"),
         Calls(Sync(Warc, 0)),
+        Calls(Write(Warc, 0, 0, b"x")),
+        Calls(Cut(Warc, 0, 0)),
+        Holds(FIRST_PATH, "other"),
         Removes(THIRD_PATH),
         Calls(Files(Warc)),
         Calls(Sync(Warc, 2)),
@@ -152,7 +155,7 @@ static LATER: Scene = (
         Calls(Create(Warc)),
         Calls(Len(Warc, 1)),
     ],
-    "0;2;1;6;2;0;0;0;0;failed;0;3;failed;0;failed;failed;failed;failed;",
+    "0;2;1;6;2;0;0;0;0;failed;failed;failed;0;0;3;failed;0;failed;failed;failed;failed;",
 );
 
 /// What who found no folder is answered.
