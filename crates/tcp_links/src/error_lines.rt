@@ -19,6 +19,9 @@ const TEXT: usize = LINE - 1;
 /// Where this process has its standard error.
 const STANDARD_ERROR: &[u8] = b"/dev/stderr";
 
+/// The name that a process has for the terminal that controls it.
+const CONTROLLING_TERMINAL: &[u8] = b"/dev/tty";
+
 /// Writes a line on standard error, by one write of at most `LINE` bytes: what is longer is cut, and a byte that isn't printable ASCII is a `?`. It doesn't wait: a line that
 /// isn't taken at once is left out.
 pub(crate) fn put_line<D: Display + Drop>(line: D) {
@@ -41,7 +44,8 @@ fn printable(byte: u8) -> u8 {
 
 /// Writes the bytes of a line where they are taken at once.
 fn put(line: &[u8]) {
-    if put_on_terminal(line) {
+    if libc::isatty(STDERR_FILENO) == 1 {
+        put_on_terminal(line);
         return;
     }
     if takes_a_line() {
@@ -50,24 +54,28 @@ fn put(line: &[u8]) {
 }
 
 /// Writes to the terminal at standard error what it takes at once. One that nobody reads says that it takes a line, and then takes a part of it. So it is opened anew, and that opening
-/// set not to wait: standard error itself is the shell's too. `false` where it is no terminal or can't be opened so.
-fn put_on_terminal(line: &[u8]) -> bool {
-    if libc::isatty(STDERR_FILENO) == 0 {
-        return false;
-    }
-    let terminal = os::open_append(STANDARD_ERROR);
+/// set not to wait: standard error itself is the shell's too. Where it can't be opened so the line is left out.
+fn put_on_terminal(line: &[u8]) {
+    let terminal = open_terminal();
     if terminal < 0 {
-        return false;
+        return;
     }
-    let never_waits = os::set_nonblocking(terminal, true) == 0;
-    if never_waits {
+    if os::set_nonblocking(terminal, true) == 0 {
         let _written = libc::write(terminal, line);
     }
     let _closed = libc::close(terminal);
-    never_waits
 }
 
-/// Whether standard error takes a line at once, or refuses it at once. Where a reader has stood still, as a pipe that nobody empties, it does neither.
+/// An opening of the terminal at standard error, negative where there is none. One of another user, as after `su`, refuses its own name; the name of a controlling terminal is everyone's.
+fn open_terminal() -> i32 {
+    let terminal = os::open_append(STANDARD_ERROR);
+    if terminal >= 0 || libc::tcgetpgrp(STDERR_FILENO) < 0 {
+        return terminal;
+    }
+    os::open_append(CONTROLLING_TERMINAL)
+}
+
+/// Whether standard error, which is no terminal, takes a line at once, or refuses it at once. Where a reader has stood still, as a pipe that nobody empties, it does neither.
 fn takes_a_line() -> bool {
     let mut errors = [pollfd {
         fd: STDERR_FILENO,
