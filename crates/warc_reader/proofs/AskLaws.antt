@@ -10,7 +10,7 @@ use Rattle.http_head.specs.Heads.{IsHeadFault}
 use Rattle.http_head.specs.declared.head.RequestMessage.{RequestMessage}
 use Rattle.http_head.specs.declared.head.WireFault.{WireFault}
 use Rattle.http_head.specs.declared.head.WireFault.TheVariants.{Malformed, HeadTooLong, BodyTooLong, CodingRefused, EndedEarly, Memory}
-use Rattle.http_wire.specs.WholeRequests.{IsRequestText}
+use Rattle.whole_request.specs.WholeRequests.{IsRequestText}
 use Rattle.warc_reader.specs.Files.{Knows}
 use Rattle.warc_reader.specs.Records.{BeginsWithRecord, HoldsRecord, IsFile, IsRecord, WarcRecord, print_record}
 use Rattle.warc_reader.specs.Requests.{Asked, IsAskedBy, IsAskedFor, IsAskedIn, Placed, first_where, found_request, made, placed_from, stands_with}

@@ -10,8 +10,8 @@ use crate::records::read_record;
 use crate::requests::Requests;
 use capture::{Bytes, Memory, Text, put_all};
 use http_head::{Field, RequestHead, RequestMessage, WireFault};
-use http_wire::read_request;
 use std::alloc::Global;
+use whole_request::read_request;
 
 /// A request of a method, in bytes.
 #[derive(Drop)]
