@@ -82,4 +82,8 @@ impl<D: Disk> Shelf for Archive<D> {
         self.shows_its_book();
         answer
     }
+
+    fn catch_up(&mut self, _alloc: Global) {
+        self.shows_its_book();
+    }
 }

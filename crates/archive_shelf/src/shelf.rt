@@ -1,4 +1,5 @@
 //! What captures are stored on and brought from.
+ghost use Rattle.std.specs.Prelude.{false};
 ghost use Rattle.warc_text.specs.Fits.{Fits};
 ghost use Rattle.archive_shelf.specs.Answers.{Brings, NamesKeeper, is_bring_fault};
 ghost use Rattle.archive_shelf.specs.Digests.{GoesByDigest, PieceGoesByDigest};
@@ -33,5 +34,11 @@ pub trait Shelf: Finder {
         ensures gives { GivesPiece (Self.told self.new).contents number result }
         ensures digests { PieceGoesByDigest (Self.told self.new).contents.seen number result }
         ensures reads { ReadsOn Self.alone (is_bring_fault result) (Self.told self.old) (Self.told self.new) }
+        ensures shows { ShowsItsBook Self.alone (Self.told self.new) };
+
+    /// For a query that met want of memory: what was stored and couldn't be shown by date for that is shown, as far as there is memory now.
+    /// Nothing is stored, and the disk isn't asked.
+    fn catch_up(&mut self, alloc: Global)
+        ensures reads { ReadsOn Self.alone false (Self.told self.old) (Self.told self.new) }
         ensures shows { ShowsItsBook Self.alone (Self.told self.new) };
 }

@@ -172,4 +172,8 @@ impl<S: Shelf> Shelf for LoadShelf<S> {
     fn piece(&mut self, alloc: Global, number: u32) -> Result<Bytes, BringFault> {
         self.shelf.piece(alloc, number)
     }
+
+    fn catch_up(&mut self, alloc: Global) {
+        self.shelf.catch_up(alloc)
+    }
 }

@@ -105,10 +105,11 @@ pub none_looked : (alone : Bool) (setting : Setting) (q : SiteRequest) (asks clo
 none_looked alone setting q asks closes result was is earlier h knows by same refusing =
     found_refuses alone setting q NoCapture asks closes false result was is is earlier h knows (reads_itself alone is) refl by same refusing
 
--- there was no memory for a look, or behind it
-pub look_lacking : (alone : Bool) (setting : Setting) (q : SiteRequest) (closes : Bool) (memory : Memory) (was is : Told) → IsEarlier is.crash
-    → LooksOn alone was is → AnswersVisit alone setting q closes (Err memory) was is
-look_lacking alone setting q closes memory was is earlier h = bring_lacking alone setting q closes memory was is earlier (looked_reads alone was is h)
+-- there was no memory for a look, or behind it, and the shelf caught up then
+pub look_lacking : (alone : Bool) (setting : Setting) (q : SiteRequest) (closes : Bool) (memory : Memory) (was mid is : Told) → IsEarlier is.crash
+    → LooksOn alone was mid → ReadsOn alone false mid is → AnswersVisit alone setting q closes (Err memory) was is
+look_lacking alone setting q closes memory was mid is earlier h k =
+    bring_lacking alone setting q closes memory was is earlier (read_both alone false was mid is (looked_reads alone was mid h) k)
 
 -- ---- what is found
 

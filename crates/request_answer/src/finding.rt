@@ -55,7 +55,10 @@ fn answer_query<S: Shelf>(
 {
     match look_up(alloc, shelf, query) {
         Ok(text) => found(alloc, visit, query.media_type(), text),
-        Err(Memory) => Err(Memory),
+        Err(Memory) => {
+            shelf.catch_up(alloc);
+            Err(Memory)
+        }
     }
 }
 

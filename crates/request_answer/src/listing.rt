@@ -45,7 +45,10 @@ pub fn visit_map<S: Shelf>(
             }
             list(alloc, visit, of.url.as_slice(), entries.as_slice())
         }
-        Err(Memory) => Err(Memory),
+        Err(Memory) => {
+            shelf.catch_up(alloc);
+            Err(Memory)
+        }
     }
 }
 

@@ -73,7 +73,10 @@ fn redirect_to_nearest<S: Shelf>(
     match seek(alloc, shelf, of, time) {
         Ok(Some(entry)) => lead_to(alloc, visit, of.url.as_slice(), &entry, false, true),
         Ok(None) => Ok(refused(Refusal::NoCapture, answers_head, visit.closes)),
-        Err(Memory) => Err(Memory),
+        Err(Memory) => {
+            shelf.catch_up(alloc);
+            Err(Memory)
+        }
     }
 }
 
@@ -108,7 +111,10 @@ pub fn visit_memento<S: Shelf>(
             )
         }
         Ok(None) => Ok(refused(Refusal::NoCapture, answers_head, visit.closes)),
-        Err(Memory) => Err(Memory),
+        Err(Memory) => {
+            shelf.catch_up(alloc);
+            Err(Memory)
+        }
     }
 }
 

@@ -22,7 +22,7 @@ use Rattle.vault.specs.Members.{AreMembers, AreNewMembers, IsMember, IsMemberAt,
 use Rattle.vault.specs.Orderly.{IsOrderly}
 use Rattle.vault_turns.specs.Own.{count_faults, own_captures, own_faults}
 use Rattle.vault.specs.Passes.{IsNew}
-use Rattle.vault_turns.specs.Turns.{AddsFaultAlone, BringsIt, GivesIt, StoresBy}
+use Rattle.vault_turns.specs.Turns.{AddsFaultAlone, AddsNone, BringsIt, GivesIt, StoresBy}
 use Rattle.vault_turns.specs.declared.noted.Noted.{Noted}
 use Rattle.vault_turns.specs.declared.noted.Sure.{Sure}
 use Rattle.vault_turns.proofs.FaultLaws.{one_if}
@@ -227,3 +227,12 @@ module _ (vault : VaultName) (was is : Passing) (same : IsSamePass was.known is.
 
     pub piece_digests : PieceGoesByDigest (told_book is.known.seen) number result
     piece_digests = subst (λ (b : Book). PieceGoesByDigest b number result) (sym piece_book) turn.adds.done.digests
+
+  module _ (turn : Turn by_of was.known is.known.seen (λ found added. AddsNone (is_told was.known.seen) found added)) where
+    pub flush_member : IsMember vault is.known
+    flush_member = member_read vault was.known is.known same member _ false turn (λ found added done. done.none) (λ found added done. done.sound)
+
+    pub flush_reads : ReadsOn false false (told_at was) (told_at is)
+    flush_reads =
+        reads_on was is same shown false
+        (read_turn was.known is.known.seen _ (member_begun vault was.known member) member.alone turn false (λ found added done. done.none))

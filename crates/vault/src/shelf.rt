@@ -19,4 +19,8 @@ impl<'a, R: Wait, D: Disk, J: Naming> Shelf for At<'a, R, D, J> {
     fn piece(&mut self, alloc: Global, number: u32) -> Result<Bytes, BringFault> {
         self.vault.piece(self.rt, alloc, &mut self.pass, number)
     }
+
+    fn catch_up(&mut self, alloc: Global) {
+        self.vault.flush(self.rt, alloc, &mut self.pass)
+    }
 }

@@ -15,7 +15,7 @@ ghost use Rattle.vault_turns.specs.Items.{brings_of, shown_in};
 ghost use Rattle.index_snapshot.specs.Entries.{entries_in};
 ghost use Rattle.vault_turns.specs.Listing.{IsListed};
 ghost use Rattle.vault.specs.Passes.{IsLeft, IsNew};
-ghost use Rattle.vault_turns.specs.Turns.{BringsIt, Commits, GivesIt, StoresBy};
+ghost use Rattle.vault_turns.specs.Turns.{AddsNone, BringsIt, Commits, GivesIt, StoresBy};
 
 use crate::pass::{VaultPass, seat_all};
 use archive_core::{Archive, compared_payloads_serve_later, payload_of_taken};
@@ -281,7 +281,7 @@ impl<D: Disk> Vault<D> {
     /// Publishes what is stored, as far as there was no memory for that before. May wait, also for readers.
     pub fn flush<R: Wait>(&self, rt: &R, alloc: Global, pass: &mut VaultPass)
         requires pass { pass.old.known.lock ≡ self.now }
-        ensures turn { Turn by_of pass.old.known pass.new.known.seen (λ found added. added ≡ []) }
+        ensures turn { Turn by_of pass.old.known pass.new.known.seen (λ found added. AddsNone (is_told pass.old.known.seen) found added) }
         ensures same { IsSamePass pass.old.known pass.new.known }
         ensures shown { pass.new.shown ≡ pass.old.shown }
     {

@@ -1,12 +1,14 @@
 -- What a turn tells of the list.
-use Rattle.std.proofs.Common.{◌≡◌, ℕ, List, [], ◌++◌, Bool, refl, sym, ap, subst, ◌∙◌}
+use Rattle.std.proofs.Common.{◌≡◌, ℕ, List, [], ◌++◌, Bool, IsTrue, refl, sym, ap, subst, ◌∙◌}
 use Rattle.std.proofs.lemmas.List.{append-nil}
 use Rattle.std.specs.Prelude.{OnOk, Result, Ok, Err}
+use Rattle.warc_text.specs.Sound.{IsSound}
 use Rattle.history_lock.specs.Known.{Known}
 use Rattle.history_lock.specs.Seen.{Adds, Shows, Turn}
 use Rattle.index_snapshot.specs.Edges.{Edge}
-use Rattle.vault_turns.specs.History.{IsBegun, KeepsNames, Names, by_of, is_told}
+use Rattle.vault_turns.specs.History.{IsBegun, KeepsNames, Names, by_of, is_told, told_book}
 use Rattle.vault_turns.specs.Listing.{IsListed}
+use Rattle.vault_turns.specs.Turns.{AddsNone}
 use Rattle.vault_turns.specs.declared.item.Item.{Item}
 use Rattle.vault_turns.specs.declared.noted.Noted.{Noted}
 use Rattle.vault_turns.proofs.HistoryLaws.{begun_append, told_stays}
@@ -23,8 +25,14 @@ adds_listed by before after does note whole adds listed = record {
 }
 
 -- nothing was added
-pub adds_none : (by : ℕ) (before after : List Noted) → after ≡ before → Adds by_of by before after (λ added. added ≡ [])
-adds_none by before after same = record { added = []; is_before_and_added = same ∙ sym (append-nil before); of_pass = tt; done = refl }
+pub adds_none : (by : ℕ) (before after : List Noted) → after ≡ before → (IsTrue (is_told before) → IsSound (told_book before))
+    → Adds by_of by before after (λ added. AddsNone (is_told before) before added)
+adds_none by before after same sound = record {
+  added = [];
+  is_before_and_added = same ∙ sym (append-nil before);
+  of_pass = tt;
+  done = record { none = refl; sound = λ told. subst (λ (l : List Noted). IsSound (told_book l)) (sym (append-nil before)) (sound told) };
+}
 
 -- ---- a turn
 

@@ -125,6 +125,11 @@ pub record GivesIt (tells : Bool) (entries : List Facts) (number : ℕ) (found a
   pub adds : AddsFaultAlone (is_bring_fault result) added
   pub sound : IsTrue tells → IsSound (told_book (found ++ added))
 
+-- A turn that adds nothing. Where the disk tells what it holds, the book that it finds is sound.
+pub record AddsNone (tells : Bool) (found added : List Noted) : Type 0 where
+  pub none : added ≡ []
+  pub sound : IsTrue tells → IsSound (told_book (found ++ added))
+
 -- the answer of such a turn, where what is shown by date is known to go with it, and else want of memory in place of what would say something of that
 abbrev pub held_back : {T : Type 0} → Bool → Result T BringFault → Result T BringFault
 held_back true answer = answer

@@ -13,17 +13,18 @@ pub struct Flush<'a, R> {
 }
 
 impl<'a, R: Wait, D: Disk> Act<D> for Flush<'a, R> {
-    ghost use Rattle.std.specs.Prelude.{◌≡◌, []};
+    ghost use Rattle.vault_turns.specs.Turns.{AddsNone};
 
     type Answer = ();
 
     ghost ready = { λ work found. Unit {0} };
 
-    ghost does = { λ work tells entries found added answer. added ≡ [] };
+    ghost does = { λ work tells entries found added answer. AddsNone tells found added };
 
     #[tactic(auto, using(crate::proofs::TellingLaws::adds_none))]
     fn act(self, _by: u32, value: &mut Published<D>) {
         let Flush { rt, alloc } = self;
+        value.stays_sound();
         let _appended = value.catch_up(alloc);
         value.show(rt);
     }

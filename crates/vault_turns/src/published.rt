@@ -4,13 +4,14 @@ ghost use Rattle.std.specs.List.{All};
 ghost use Rattle.sha1.specs.Sha1.{sha1};
 ghost use Rattle.warc_journal.specs.Journals.{disk_of};
 ghost use Rattle.warc_text.specs.Fits.{Fits};
+ghost use Rattle.warc_text.specs.Sound.{IsSound};
 ghost use Rattle.archive_core.specs.Looking.{IsDigestOf, IsRightOf};
 ghost use Rattle.history_lock.specs.Seen.{Adds};
 ghost use Rattle.index_snapshot.specs.Entries.{entries_in};
 ghost use Rattle.index_snapshot.specs.Publishing.{edge_of, full_of};
 ghost use Rattle.vault_turns.specs.Calm.{HasRightCheckpoints, IsCalm, StaysCalm, StaysRight, StaysStood, StillStands};
 ghost use Rattle.vault_turns.specs.Guarded.{AreShown, Stands};
-ghost use Rattle.vault_turns.specs.History.{IsOpening, by_of, given_faults, is_told, sure_in, told_in};
+ghost use Rattle.vault_turns.specs.History.{IsOpening, by_of, given_faults, is_told, sure_in, told_book, told_in};
 ghost use Rattle.vault_turns.specs.Items.{AreItems, brings_of, last_book, tells_in};
 ghost use Rattle.vault_turns.specs.Listing.{IsListed};
 ghost use Rattle.vault_turns.specs.Own.{AreCounted};
@@ -157,6 +158,13 @@ impl<D: Disk> Published<D> {
         ensures whole { self.new.whole ≡ self.old.whole }
     {
         let _shown = self.publisher.publish(rt);
+    }
+
+    /// Where the book is told, the book that the history tells is sound.
+    pub(crate) fn stays_sound(&self)
+        ensures { IsTrue (is_told self.now.kept.history) → IsSound (told_book self.now.kept.history) }
+    {
+        self.keeping.stays_sound();
     }
 
     /// All that was appended.

@@ -1,7 +1,7 @@
 -- The list of the captures that are shown, or that there are none.
-use Rattle.std.proofs.Common.{Ok, refl, ap, arith}
+use Rattle.std.proofs.Common.{false, Ok, refl, ap, arith}
 use Rattle.std.specs.Prelude.{vec_len}
-use Rattle.archive_shelf.proofs.CallLaws.{looked_goes_on}
+use Rattle.archive_shelf.proofs.CallLaws.{goes_on_both, looked_goes_on, read_goes_on}
 use Rattle.replay_url.specs.declared.form.Form.TheVariants.{Map}
 use Rattle.request_answer.specs.SiteAnswers.{Lists}
 use Rattle.request_answer.proofs.DateLaws.{listed_in_order}
@@ -35,7 +35,7 @@ pub returns-in-Err-clause-answers : goal.returns-in-Err-clause-answers
 returns-in-Err-clause-answers g c clock_tells =
     look_lacking g.S.Finder.alone (record { site = c.args.visit.site.now; clock_tells = clock_tells })
     (record { message = c.args.visit.message.now; address = c.args.visit.address.now }) c.args.visit.closes _ (g.S.Finder.told c.args.shelf.now) (g.S.Finder.told c.all_of.new.shelf)
-    (g.met.S.Finder.earlier c.all_of.new.shelf) c.all_of.ensures.looks
+    (g.S.Finder.told c.catch_up.new.self) (g.met.S.Finder.earlier c.catch_up.new.self) c.all_of.ensures.looks c.catch_up.ensures.reads
 
 pub returns-then-is_empty-clause-goes_on : goal.returns-then-is_empty-clause-goes_on
 returns-then-is_empty-clause-goes_on g c =
@@ -47,4 +47,6 @@ returns-else-is_empty-clause-goes_on g c =
 
 pub returns-in-Err-clause-goes_on : goal.returns-in-Err-clause-goes_on
 returns-in-Err-clause-goes_on g c =
-    looked_goes_on g.S.Finder.alone (g.S.Finder.told c.args.shelf.now) (g.S.Finder.told c.all_of.new.shelf) c.all_of.ensures.looks
+    goes_on_both g.S.Finder.alone (g.S.Finder.told c.args.shelf.now) (g.S.Finder.told c.all_of.new.shelf) (g.S.Finder.told c.catch_up.new.self)
+    (looked_goes_on g.S.Finder.alone (g.S.Finder.told c.args.shelf.now) (g.S.Finder.told c.all_of.new.shelf) c.all_of.ensures.looks)
+    (read_goes_on g.S.Finder.alone false (g.S.Finder.told c.all_of.new.shelf) (g.S.Finder.told c.catch_up.new.self) c.catch_up.ensures.shows.consistent c.catch_up.ensures.reads)
