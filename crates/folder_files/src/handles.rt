@@ -13,6 +13,7 @@ use crate::reasons::{changed, moved, stopped, unknown};
 use disk_model::Kind;
 use folder_model::{Access, Folder};
 use std::io;
+use std::io::ErrorKind;
 
 impl<F: Folder, N: FileNames> Held<F, N> {
     /// Takes a file to read it, one that is open or else opened now.
@@ -87,8 +88,8 @@ impl<F: Folder, N: FileNames> Held<F, N> {
         open_one::<F, N>(&mut self.timed.folder, self.alloc, kind, number, access)
     }
 
-    /// Keeps a file that is still at its name. Where the folder was moved it may be put back; where another file is at the name, this
-    /// process writes no more.
+    /// Keeps a file that is still at its name. Where the folder was moved it may be put back; where another file is at the name, or
+    /// none, this process writes no more.
     pub(crate) fn keep_at_name(&mut self, one: OpenOne<F::File>) -> io::Result<()>
         requires others { IsTrue F.tells → AreHeld N.name F.name_of F.past self.old }
         requires open { IsTrue F.tells → IsOpen N.name F.name_of (F.past self.old.timed.folder) one }
@@ -96,9 +97,17 @@ impl<F: Folder, N: FileNames> Held<F, N> {
         ensures same { IsTrue F.tells → F.past self.new.timed.folder ≡ F.past self.old.timed.folder }
         ensures rest { self.new ≡ record self.old { timed = record self.old.timed { folder = self.new.timed.folder }; files = self.new.files } }
     {
-        if self.timed.folder.is_at_name(&one.file)? {
-            self.files.keep(one);
-            return Ok(());
+        match self.timed.folder.is_at_name(&one.file) {
+            Ok(true) => {
+                self.files.keep(one);
+                return Ok(());
+            }
+            Ok(false) => {}
+            Err(error) => {
+                if error.kind() != ErrorKind::NotFound {
+                    return Err(error);
+                }
+            }
         }
         if self.timed.folder.is_in_place()? {
             self.files.replaced = true;

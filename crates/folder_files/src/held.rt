@@ -89,7 +89,7 @@ impl<F: Folder, N: FileNames> Held<F, N> {
         ensures creates { Creates F.tells N.name kind (state_of F.past self.old) (state_of F.past self.new) result }
         ensures open { IsTrue F.tells → AreHeld N.name F.name_of F.past self.new }
     {
-        if self.trust.gave_up {
+        if self.trust.gave_up || self.files.replaced {
             return Err(stopped());
         }
         if self.trust.has_further(kind) {

@@ -150,13 +150,13 @@ static OPEN: [Row; 13] = [
     (
         Plan {
             from: 19,
-            fails: [(19, ErrorKind::NotFound), (20, ErrorKind::NotFound)],
+            fails: [(19, ErrorKind::NotFound), (21, ErrorKind::NotFound)],
             ..TWO_VOLUMES
         },
         Lock::Alone,
         &[FILES, WRITE_0, SYNC_0, FILES, FILES],
         &[
-            "look for vol-000000.warc;look for folder;look for folder;",
+            "look for vol-000000.warc;look for folder;look for folder;look for folder;",
             "2",
         ],
     ),
