@@ -17,3 +17,4 @@ pub use ledger::{Naming, Share};
 pub use post::Worker;
 pub use queue::{Queue, Unnamed};
 pub use serving::{Served, Unserved, serve_beside};
+pub use waiting::ROOM;

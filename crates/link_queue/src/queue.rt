@@ -3,7 +3,7 @@ ghost use Rattle.std.specs.Prelude.{◌≡◌, ◌+◌, ◌-◌, ◌<◌, ◌≤
 ghost use Rattle.link_queue.specs.Accounts.{all_parts, newcomer, merged, with_put, with_taken, IsWhole};
 
 use crate::ledger::{Blank, Ledger, Naming, Share};
-use crate::waiting::Waiting;
+use crate::waiting::{ROOM, Waiting};
 use std::alloc::{AllocError, Global};
 use std::collections::VecDeque;
 use std::marker::Model;
@@ -12,23 +12,34 @@ use std::sync::{Condvar, Mutex, Wait};
 /// An empty queue, whose ledger has no name yet. A contract sees which ledger it is.
 #[derive(Drop)]
 pub struct Unnamed<K> {
-    alloc: Global,
+    links: VecDeque<K>,
     blank: Blank<K>,
 }
 
 impl<K> Model for Unnamed<K> {
+    ghost use Rattle.std.specs.Prelude.{◌≡◌, ◌≤◌, []};
+    ghost use Rattle.std.specs.VecDeque.{deque_capacity};
     ghost use Rattle.link_queue.specs.Accounts.{LedgerId};
+    ghost use Rattle.link_queue.specs.declared.waiting.TheConstants.{ROOM};
 
     ghost Value = { LedgerId };
 
     ghost view = { λ q. q.blank };
+
+    ghost invariant = { λ q. (q.links.items ≡ []) × (ROOM ≤ deque_capacity q.links) };
 }
 
 impl<K> Unnamed<K> {
-    /// An empty queue, or there was no memory.
+    /// An empty queue with room for `ROOM` links, or there was no memory.
     pub fn new(alloc: Global) -> Result<Unnamed<K>, AllocError> {
-        let blank = Blank::new(alloc)?;
-        Ok(Unnamed { alloc, blank })
+        let links = VecDeque::with_capacity(alloc, ROOM)?;
+        match Blank::new(alloc) {
+            Ok(blank) => Ok(Unnamed { links, blank }),
+            Err(error) => {
+                links.destroy_empty();
+                Err(error)
+            }
+        }
     }
 
     /// The queue under a name, and a share with all parts of its ledger but one, which the queue keeps.
@@ -36,11 +47,11 @@ impl<K> Unnamed<K> {
         requires { self ≡ J.ledger }
         ensures { result.1 ≡ record newcomer { parts = all_parts - 1 } }
     {
-        let Unnamed { alloc, blank } = self;
+        let Unnamed { links, blank } = self;
         let (ledger, store, share) = blank.named();
         let queue = Queue {
             ledger,
-            waiting: Mutex::new(Waiting::new(alloc, store)),
+            waiting: Mutex::new(Waiting::new(links, store)),
             moved: Condvar::new(),
         };
         (queue, share)
@@ -72,8 +83,8 @@ impl<K, J: Naming> Queue<K, J> {
         self.ledger.merge(share, other);
     }
 
-    /// Puts a link behind the others, and wakes one who waits. The link comes back where the queue is closed or there is no
-    /// memory. May wait for the lock.
+    /// Puts a link behind the others, and wakes one who waits. The link comes back where the queue is closed, or where `ROOM` of them
+    /// wait and there is no memory. May wait for the lock.
     pub fn put<R: Wait>(&self, rt: &R, share: &mut Share<K, J>, link: K) -> Result<(), K>
         ensures put { OnOk result (share.new ≡ with_put share.old link) }
         ensures same { OnErr result (share.new ≡ share.old) }

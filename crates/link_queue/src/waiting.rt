@@ -1,10 +1,14 @@
 //! What waits, under the queue's lock.
-ghost use Rattle.std.specs.Prelude.{◌≡◌, ◌∷◌, ◌++◌, [], IfSome, IfNone, IfErr, OnOk, OnErr};
+ghost use Rattle.std.specs.Prelude.{◌≡◌, ◌<◌, ◌≤◌, ◌∷◌, ◌++◌, [], false, length, IfSome, IfNone, IfErr, IsOk, OnOk, OnErr};
+ghost use Rattle.std.specs.VecDeque.{deque_capacity};
 ghost use Rattle.link_queue.specs.Accounts.{with_put, with_taken};
+ghost use Rattle.link_queue.specs.declared.waiting.TheConstants.{ROOM};
 
 use crate::ledger::{Ledger, Naming, Share, Store};
-use std::alloc::Global;
 use std::collections::VecDeque;
+
+/// For how many links that wait a queue has room from its beginning: a growth that is refused would end who accepts.
+pub const ROOM: usize = 256;
 
 /// The links that wait, the first that was put first.
 #[derive(Drop)]
@@ -13,21 +17,24 @@ pub(crate) struct Waiting<K, J: Naming> {
     pub(crate) closed: bool,
     pub(crate) store: Store<K, J>,
     ghost kept: { store ≡ links.items },
+    ghost room: { ROOM ≤ deque_capacity links },
 }
 
 impl<K, J: Naming> Waiting<K, J> {
-    /// Nothing.
-    pub(crate) fn new(alloc: Global, store: Store<K, J>) -> Waiting<K, J>
-        requires { store ≡ [] }
+    /// Nothing, in this room.
+    pub(crate) fn new(links: VecDeque<K>, store: Store<K, J>) -> Waiting<K, J>
+        requires none { links.items ≡ [] }
+        requires room { ROOM ≤ deque_capacity links }
+        requires store { store ≡ [] }
     {
         Waiting {
-            links: VecDeque::new(alloc),
+            links,
             closed: false,
             store,
         }
     }
 
-    /// Puts a link behind the others. It comes back where the queue is closed or there is no memory.
+    /// Puts a link behind the others. It comes back where the queue is closed, or where `ROOM` of them wait and there is no memory.
     pub(crate) fn put(
         &mut self,
         ledger: &Ledger<K, J>,
@@ -39,13 +46,17 @@ impl<K, J: Naming> Waiting<K, J> {
         ensures share { OnOk result (share.new ≡ with_put share.old link) }
         ensures same { OnErr result (share.new ≡ share.old) }
         ensures back { IfErr result (λ given. given ≡ link) }
+        ensures succeeds { self.old.closed ≡ false → length self.old.links.items < ROOM → IsOk result }
     {
         let Waiting {
             links,
             closed,
             store,
         } = self;
-        if *closed || links.reserve(1).is_err() {
+        if *closed {
+            return Err(link);
+        }
+        if links.reserve(1).is_err() {
             return Err(link);
         }
         ledger.put(share, store, &link);
