@@ -10,7 +10,7 @@ ghost use Rattle.crew.specs.steps.Working.{Finishes, ServesOn, Works, all_ended,
 
 use crate::accepting::Accepting;
 use crate::fresh::Fresh;
-use crate::member::{Member, serve_one};
+use crate::member::{Member, none_ended, serve_one};
 use archive_shelf::Shelf;
 use capture::Site;
 use command::Status;
@@ -169,7 +169,7 @@ fn enlist<'a, S, G: Gate, N: Dialer, C: Clock>(
             site,
             shelf,
             member,
-            ended: Vec::new(alloc),
+            ended: none_ended(alloc),
             starved: false,
         });
     }

@@ -1,5 +1,6 @@
 //! A member of the crew at work.
-ghost use Rattle.std.specs.Prelude.{◌≡◌, IsTrue};
+ghost use Rattle.std.specs.Prelude.{◌≡◌, ◌<◌, [], IsTrue, vec_len};
+ghost use Rattle.std.specs.Vec.{vec_capacity};
 ghost use Rattle.outside.specs.Link.{IsFresh};
 ghost use Rattle.crew.specs.Shifts.{ServesThis, WorksOn, hand_of};
 
@@ -36,7 +37,7 @@ impl<'a, S: Shelf, G: Gate, N: Dialer, C: Clock> Worker<Fresh<G::Link>> for Memb
     ghost has_room = { λ member. vec_len member.ended < vec_capacity member.ended };
 
     fn make_room(&mut self) -> bool {
-        if self.ended.reserve(1).is_ok() {
+        if make_room_in(&mut self.ended) {
             return true;
         }
         self.starved = true;
@@ -55,6 +56,36 @@ impl<'a, S: Shelf, G: Gate, N: Dialer, C: Clock> Worker<Fresh<G::Link>> for Memb
         } = self;
         let past = serve_one::<S, G, N, C>(*alloc, site, shelf, member, link);
         ended.push_reserved(past);
+    }
+}
+
+/// How many connections a list of those that were served has room for, and grows by.
+const BLOCK: usize = 1_024;
+
+/// A list of those that were served, with room for the first ones unless that is refused: it is asked for again before the first one.
+pub(crate) fn none_ended<P>(alloc: Global) -> Vec<P>
+    ensures { result.items ≡ [] }
+{
+    match Vec::with_capacity(alloc, BLOCK) {
+        Ok(ended) => ended,
+        Err(_) => Vec::new(alloc),
+    }
+}
+
+/// Makes room for one more, and answers whether there is. A list grows while half a block is left, so that a growth which is refused is tried again before each
+/// connection that takes one of these places.
+fn make_room_in<P>(ended: &mut Vec<P>) -> bool
+    ensures items { ended.new.items ≡ ended.old.items }
+    ensures room { IsTrue result → vec_len ended.new < vec_capacity ended.new }
+    ensures succeeds { vec_len ended.old < vec_capacity ended.old → IsTrue result }
+{
+    let left = ended.capacity() - ended.len();
+    if left > BLOCK / 2 {
+        return true;
+    }
+    match ended.reserve(BLOCK) {
+        Ok(()) => true,
+        Err(_) => left > 0,
     }
 }
 

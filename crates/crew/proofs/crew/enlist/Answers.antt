@@ -14,7 +14,7 @@ enlisting-preserved g c =
           ap (λ ms. map (desk_of g.N.Dialer g.C.Clock) ms ++ map (new_desk c.args.site.now)
           (hands_of g.N.Dialer g.C.Clock (into_iter_items c.next.new.self) (into_iter_items c.next-in-Some.new.self))) c.push_reserved.ensures.items
           ∙ enlisted g.N.Dialer g.C.Clock c.args.site.now (desk_of g.N.Dialer g.C.Clock) c.enlisting.members.items _ c.in-Some.shelf _ _ c.in-Some-next.member _ _ _ i.desks
-          c.in-Some.ensures.items c.in-Some-next.ensures.items (λ j. record { site = c.args.site.now; hand = hand_of g.N.Dialer g.C.Clock c.in-Some.shelf c.in-Some-next.member; ended = c.new.ensures.items j; starved = false });
+          c.in-Some.ensures.items c.in-Some-next.ensures.items (λ j. record { site = c.args.site.now; hand = hand_of g.N.Dialer g.C.Clock c.in-Some.shelf c.in-Some-next.member; ended = c.none_ended.ensures j; starved = false });
       count = search rules;
       few = search rules;
       rest = dropped_on _ _ _ _ _ _ i.rest c.in-Some-next.ensures.items c.push_reserved.ensures.len;
