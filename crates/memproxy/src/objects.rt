@@ -10,12 +10,16 @@ ghost use Rattle.real_outside.specs.Sinks.{is_error};
 
 use crate::command_line::{ends_of, lock_of};
 use capture::Memory;
+use link_queue::ROOM;
 use proxy_run::CREW;
 use real_outside::{Made, make};
-use tcp_links::MOST_WRITERS;
+use tcp_links::{LIMITS, MOST_WRITERS};
 
 /// Each member of the crew may write a line on standard error at once, and one who accepts beside them.
 const _: () = prove!(CREW < MOST_WRITERS);
+
+/// All connections that the gate has out at once may wait in the crew's queue, without a growth of that.
+const _: () = prove!(LIMITS.most_clients <= ROOM as u64);
 
 /// The real objects of a run with these words.
 pub(crate) fn objects_for(rt: &HostRuntime, words: &[&str]) -> Result<Made<HostRuntime>, Memory>
