@@ -1,4 +1,4 @@
-//! Calls of `warc_scan` and of `warc_text`.
+//! Calls of `record_opening`, `warc_scan` and `warc_text`.
 use crate::exchanges::{forwarded_for, payload_of_response};
 use capture::{Bytes, Kept, Memory, Taken, Text, put_all, put_number};
 use case_language::{TextWords, number_in};
