@@ -12,9 +12,8 @@ use capture::{Bytes, Memory, Site, Taken, Text};
 use case_language::{number_in, split_word};
 use case_messages::received;
 use exchange::{Aim, AimFault, Target, aim_of, forward_text, requests_can_be_stored};
-use http_wire::{
-    Progress, Received, RequestMessage, RequestReader, WireFault, responses_can_be_stored,
-};
+use http_head::{Received, RequestMessage, WireFault};
+use http_wire::{Progress, RequestReader, responses_can_be_stored};
 use message_body::{PayloadFault, payload_in};
 use std::alloc::Global;
 use time_text::LATEST;

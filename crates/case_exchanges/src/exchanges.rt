@@ -8,10 +8,10 @@ use case_language::TextWords;
 use case_messages::{fault_shown, received};
 use case_texts::{always, put_next, put_next_number, site_of, told};
 use exchange::{Aim, AimFault, Target, aim_of, forward_text, put_client_head};
-use http_head::{RequestHead, read_request_head};
-use http_wire::{Received, RequestMessage, read_request};
+use http_head::{Received, RequestHead, RequestMessage, read_request_head};
 use message_body::{PayloadFault, payload_in};
 use std::alloc::Global;
+use whole_request::read_request;
 
 /// Where a request of this head is aimed; `Malformed` where the text is no head.
 pub fn aim_shown(alloc: Global, text: &[u8]) -> Result<Vec<u8>, Memory> {

@@ -4,9 +4,10 @@ use capture::Memory;
 use case_messages::response_shown;
 use case_texts::{always, told};
 use exchange::{FetchFault, Target, Window, fetch, forward_text};
-use http_wire::{Received, RequestMessage, WireFault, read_request};
+use http_head::{Received, RequestMessage, WireFault};
 use outside::Dialer;
 use std::alloc::Global;
+use whole_request::read_request;
 
 /// What is fetched over the dialer's links, or the fault. `None` where the text is no whole request for an origin.
 pub fn fetched<D: Dialer>(

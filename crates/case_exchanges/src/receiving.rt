@@ -3,7 +3,8 @@ use capture::Memory;
 use case_messages::{fault_shown, request_shown};
 use case_texts::told;
 use exchange::{Came, Window, receive_request};
-use http_wire::{RequestMessage, RequestReader};
+use http_head::RequestMessage;
+use http_wire::RequestReader;
 use outside::Link;
 use std::alloc::Global;
 

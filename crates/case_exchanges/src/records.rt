@@ -5,13 +5,14 @@ use case_language::{TextWords, number_in};
 use case_messages::received;
 use case_texts::{always, number, put_next, put_next_number, told};
 use digest32::{base32_of, payload_digest};
-use http_wire::{Received, read_request};
+use http_head::Received;
 use record_opening::{InfoStep, next_info};
 use std::alloc::Global;
 use time_text::LATEST;
 use uuid::Uuid;
 use warc_scan::{Group, GroupStep, Revisited, next_group};
 use warc_text::{SameOf, group_text, info_text};
+use whole_request::read_request;
 
 /// The namespace of the records.
 pub const NAMESPACE: &str = "6ba7b810-9dad-11d1-80b4-00c04fd430c8";

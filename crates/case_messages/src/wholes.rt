@@ -8,10 +8,10 @@ use crate::framings::put_framing;
 use capture::{Memory, put_all, put_number};
 use case_language::in_pieces;
 use case_texts::{always, told};
-use http_wire::{
-    Progress, Received, RequestMessage, RequestReader, ResponseReader, WireFault, read_request,
-};
+use http_head::{Received, RequestMessage, WireFault};
+use http_wire::{Progress, RequestReader, ResponseReader};
 use std::alloc::Global;
+use whole_request::read_request;
 
 /// What tells the request's length, and its payload; or the fault.
 pub fn request_message(alloc: Global, text: &[u8]) -> Result<Vec<u8>, Memory> {

@@ -7,7 +7,8 @@ ghost use Rattle.http_wire.specs.Reading.{Open, Whole, Stands, IsEnded};
 
 use crate::window::Window;
 use capture::Failed;
-use http_wire::{Progress, RequestReader, ResponseReader, WireFault};
+use http_head::WireFault;
+use http_wire::{Progress, RequestReader, ResponseReader};
 use outside::Link;
 use std::alloc::Global;
 

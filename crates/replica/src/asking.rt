@@ -7,7 +7,7 @@ ghost use Rattle.replica.specs.Sources.{Asks, Gives, is_outside};
 
 use capture::{Bytes, Memory, Site, Text, put_all, put_number};
 use exchange::{FetchFault, HTTP_PORT, Target, Window, fetch};
-use http_wire::Received;
+use http_head::Received;
 use message_body::payload_in_place;
 use outside::Dialer;
 use std::alloc::Global;

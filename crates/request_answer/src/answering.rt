@@ -12,7 +12,7 @@ use crate::visiting::answer_visit;
 use archive_shelf::Shelf;
 use capture::{Memory, Site};
 use exchange::{Aim, Window};
-use http_wire::RequestMessage;
+use http_head::RequestMessage;
 use outside::{Clock, Dialer};
 use std::alloc::Global;
 

@@ -8,7 +8,7 @@ ghost use Rattle.request_answer.specs.steps.Exchanging.{PassesOn, given_of};
 use crate::answer_text::{Answer, SHORT};
 use capture::{Bytes, Framing, Memory, put_all};
 use exchange::put_client_head;
-use http_wire::Received;
+use http_head::Received;
 use message_body::{Slices, payload_in_place};
 use std::alloc::Global;
 

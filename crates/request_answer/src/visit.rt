@@ -1,6 +1,6 @@
 //! What is asked of the archive's own site.
 use capture::Site;
-use http_wire::RequestMessage;
+use http_head::RequestMessage;
 use surt_key::KeyedUrl;
 
 /// A request to the site.

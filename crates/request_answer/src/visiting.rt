@@ -17,7 +17,7 @@ use crate::shipping::ship;
 use crate::visit::{Sought, Visit};
 use archive_shelf::Shelf;
 use capture::{Memory, Refusal};
-use http_wire::RequestMessage;
+use http_head::RequestMessage;
 use replay_url::{FormFault, KeyedForm, read_keyed_form};
 use std::alloc::Global;
 

@@ -10,7 +10,7 @@ ghost use Rattle.session.specs.steps.Heads as steps;
 
 use capture::{BODY_LIMIT, Framing};
 use http_head::{Field, RequestHead, Version};
-use http_wire::{request_framing_of, split_member};
+use message_body::{request_framing_of, split_member};
 use request_answer::REQUEST_LIMIT;
 
 /// Whether the connection closes after a request with this head, which is the next behind so many: HTTP/1.0 has one request a

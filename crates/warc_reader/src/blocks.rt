@@ -10,9 +10,9 @@ ghost use Rattle.http_wire.specs.ResponseReading.{new_response};
 ghost use Rattle.warc_reader.specs.Blocks.{HasNoResponse, IsBlockOf, IsOther, block_fault_of, answered, received_parts};
 
 use capture::{Memory, ended_bodies_are_cut, heads_end_at_the_first_empty_line};
+use http_head::{Received, WireFault};
 use http_wire::{
-    Progress, Received, ResponseReader, WireFault, decisions_are_one, decisions_stay,
-    responses_can_be_stored,
+    Progress, ResponseReader, decisions_are_one, decisions_stay, responses_can_be_stored,
 };
 use std::alloc::Global;
 

@@ -1,5 +1,5 @@
-//! Reads the records of a volume (ISO 28500, WARC 1.1): its warcinfo, and the groups of its captures. What is read is exactly
-//! what `warc_text` writes for well formed captures.
+//! Reads the groups of a volume's captures, each two or three records (ISO 28500, WARC 1.1). What is read is exactly what `warc_text`
+//! writes for well formed captures.
 #![tactic(auto)]
 
 mod answer;
