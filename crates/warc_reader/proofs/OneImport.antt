@@ -179,7 +179,10 @@ taken_is_not_skipped all fields block t Target is s = s.2 t.uri is.response.targ
 taken_is_not_skipped all fields block t Date is s = s.2 t.date is.dated
 taken_is_not_skipped all fields block t NoMessage is s =
     let same = asked_alike all fields t.uri s.uri (asked_of t) s.asked (one_uri fields t.uri s.uri is.response s.response) is.asked s.is_asked in
-    s.none (parts_of t) (subst (λ x. IsBlockOf (answered_in fields block x.method) (parts_of t)) same is.answers)
+    elim s.none [
+      | inl segmented ↦ absurd (true≢false (sym segmented ∙ is.whole))
+      | inr none ↦ none (parts_of t) (subst (λ x. IsBlockOf (answered_in fields block x.method) (parts_of t)) same is.answers)
+    ]
 
 one_reason : (all : List Placed) (fields : List NamedValue) (block : List ℕ) (a b : Reason) → IsSkipped all fields block a → IsSkipped all fields block b → a ≡ b
 one_reason all fields block Revisit Revisit x y = refl

@@ -27,6 +27,9 @@ date_field = codes "warc-date"
 abbrev pub truncated : List ℕ
 truncated = codes "warc-truncated"
 
+abbrev pub segment_number : List ℕ
+segment_number = codes "warc-segment-number"
+
 abbrev pub content_type : List ℕ
 content_type = codes "content-type"
 
@@ -89,6 +92,11 @@ HasTarget fields uri = (target_of fields ≡ Some uri) × IsTrue (is_accepted_ur
 
 abbrev pub is_truncated : List NamedValue → Bool
 is_truncated fields = is_some (first_of truncated fields)
+
+-- ---- segments (section 7): the block is a part of the record's, the first one too
+
+abbrev pub is_segmented : List NamedValue → Bool
+is_segmented fields = is_some (first_of segment_number fields)
 
 -- ---- which records stand together (5.7)
 

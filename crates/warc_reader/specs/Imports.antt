@@ -1,11 +1,11 @@
 -- What an import makes of the records of a file: of each record of type `response` or `revisit` a capture, or a skip with the first
 -- reason that applies. Records of other types are passed over.
-use Rattle.std.specs.Prelude.{◌≡◌, ℕ, List, [], ◌∷◌, IsTrue, IsFalse, Some}
+use Rattle.std.specs.Prelude.{◌≡◌, ◌⊎◌, ℕ, List, [], ◌∷◌, IsTrue, IsFalse, Some}
 use Rattle.capture.specs.Fields.{NamedValue}
 use Rattle.capture.specs.declared.captured.Taken.{Taken}
 use Rattle.warc_reader.specs.Blocks.{Answered, HasNoResponse, IsBlockOf, Parts}
 use Rattle.warc_reader.specs.Dates.{IsDateText}
-use Rattle.warc_reader.specs.Fields.{date_field, HasTarget, first_of, has_http_type, is_counted, is_truncated, kind_of}
+use Rattle.warc_reader.specs.Fields.{date_field, HasTarget, first_of, has_http_type, is_counted, is_segmented, is_truncated, kind_of}
 use Rattle.warc_reader.specs.Records.{IsFile, WarcRecord}
 use Rattle.warc_reader.specs.Requests.{Asked, IsAskedFor, Placed, fields_of, placed_from}
 use Rattle.warc_reader.specs.declared.import.Outcome.{Outcome}
@@ -41,9 +41,10 @@ pub record IsTaken (all : List Placed) (fields : List NamedValue) (block : List 
   pub response : IsResponseRecord fields taken.uri
   pub dated : IsDated fields taken.date
   pub asked : IsAskedFor all fields taken.uri (asked_of taken)
+  pub whole : IsFalse (is_segmented fields)
   pub answers : IsBlockOf (answered_in fields block taken.method) (parts_of taken)
 
--- a response record with an accepted target and a date, whose block is no response to the method that was asked
+-- a response record with an accepted target and a date, whose block is a segment, or no response to the method that was asked
 pub record HasNoMessage (all : List Placed) (fields : List NamedValue) (block : List ℕ) : Type 0 where
   pub uri : List ℕ
   pub response : IsResponseRecord fields uri
@@ -51,7 +52,7 @@ pub record HasNoMessage (all : List Placed) (fields : List NamedValue) (block : 
   pub dated : IsDated fields date
   pub asked : Asked
   pub is_asked : IsAskedFor all fields uri asked
-  pub none : HasNoResponse (answered_in fields block asked.method)
+  pub none : IsTrue (is_segmented fields) ⊎ HasNoResponse (answered_in fields block asked.method)
 
 -- the first reason for which the record is skipped
 abbrev pub IsSkipped : List Placed → List NamedValue → List ℕ → Reason → Type 0

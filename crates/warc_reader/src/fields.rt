@@ -91,6 +91,13 @@ fn without_brackets(text: &[u8]) -> &[u8]
     }
 }
 
+/// Whether the record says that its block is a segment, the first one too (ISO 28500:2017, section 7).
+pub fn is_segmented(fields: &[Field]) -> bool
+    ensures { result ≡ spec.is_segmented (map named_value fields.now) }
+{
+    first_value(fields, b"warc-segment-number").is_some()
+}
+
 /// Whether the record says that its block was truncated (ISO 28500:2017, 5.13).
 pub fn is_truncated(fields: &[Field]) -> bool
     ensures { result ≡ spec.is_truncated (map named_value fields.now) }

@@ -16,8 +16,8 @@ pub enum Reason {
     Target,
     /// Its date isn't one of the years 1970 to 9999.
     Date,
-    /// Its block isn't one whole final response to the request's method within the limits, nor, where it is marked as
-    /// truncated, one that ends inside its body.
+    /// It is a segment, or its block isn't one whole final response to the request's method within the limits, nor, where it is
+    /// marked as truncated, one that ends inside its body.
     Message,
 }
 

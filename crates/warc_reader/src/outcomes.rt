@@ -12,7 +12,7 @@ ghost use Rattle.warc_reader.specs.declared.kind.Kind.TheVariants.{Response};
 use crate::asking::{Ask, asked_for};
 use crate::blocks::{BlockFault, read_response};
 use crate::dates::read_date;
-use crate::fields::{has_http_type, is_truncated, kind_of};
+use crate::fields::{has_http_type, is_segmented, is_truncated, kind_of};
 use crate::import::{Outcome, Reason, Skipped};
 use crate::kind::Kind;
 use crate::record::Record;
@@ -137,6 +137,9 @@ fn take_answer(
     ensures not_taken { IfErr result (λ why. (all : List Placed) → IsAskedFor all (map named_value fields.now) uri (asked_with ask)
         → HasNotTaken all (map named_value fields.now) block.now why) }
 {
+    if is_segmented(fields) {
+        return Err(NotTaken::Because(Reason::Message));
+    }
     match read_response(alloc, ask.method.as_slice(), is_truncated(fields), block) {
         Ok(received) => Ok(taken_of(uri, date, ask, received)),
         Err(BlockFault::NoMessage) => Err(NotTaken::Because(Reason::Message)),
