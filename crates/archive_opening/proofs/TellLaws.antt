@@ -26,7 +26,6 @@ use Rattle.warc_journal.specs.declared.place.Place.{Place}
 use Rattle.warc_scan.specs.Groups.{IsGroup}
 use Rattle.record_opening.specs.Infos.{IsInfo}
 use Rattle.warc_scan.specs.declared.group.Group.{Group as GroupFound}
-use Rattle.warc_text.specs.Records.{info_most}
 use Rattle.archive_shelf.proofs.ShortTexts.{short_info}
 use Rattle.archive_shelf.specs.declared.fault.ReopenFault.{ReopenFault}
 use Rattle.archive_shelf.specs.declared.fault.ReopenFault.TheVariants as faults
@@ -120,7 +119,7 @@ module _ {D : Type 0} (d : Ghosts D) (known : Option Book) (old new : Scanning D
     place : (position_of new).extent.volumes ≡ volume + 1
     place = ap (λ (p : Position). p.extent.volumes) one.position
 
-    end_info : (position_of new).extent.end ≤ info_most
+    end_info : (position_of new).extent.end ≤ 512
     end_info = omega (arith, ap (λ (p : Position). p.extent.end) one.position, ap length one.is.composed, short_info namespace volume born small)
 
     pub goes_info : GoesWith d known new is

@@ -19,7 +19,6 @@ use Rattle.volume_scan.specs.declared.scanning.Scanning.{Scanning}
 use Rattle.warc_journal.specs.Extents.{cdxj_files, warc_files}
 use Rattle.warc_journal.specs.Journals.{Rests, disk_of as disk_of_journal}
 use Rattle.warc_journal.specs.Texts.{Hold}
-use Rattle.warc_text.specs.Records.{info_most}
 use Rattle.warc_text.specs.StandsFor.{IdsDifferIn}
 use Rattle.archive_shelf.specs.Openings.{ImageStandsFor, SameBook}
 use Rattle.archive_volumes.specs.Held.{book_of}
@@ -93,7 +92,7 @@ pub record GoesWith {D : Type 0} (d : Ghosts D) (known : Option Book) (scanning 
   pub namespace : 0 < length (book_of g.held).volumes → (position_of scanning).namespace ≡ (book_of g.held).namespace
   pub filled : AreFilledBefore (book_of g.held)
   pub begins : (k : ℕ) (volume : Volume) → k + 1 ≡ length (book_of g.held).volumes → slice_get (book_of g.held).volumes k ≡ Some volume
-      → volume.captures ≡ [] → (position_of scanning).extent.end ≤ info_most
+      → volume.captures ≡ [] → (position_of scanning).extent.end ≤ 512
   pub within : IsTrue d.tells → AreWithin (texts_read d scanning) g.spots.items
   pub lined : IsTrue d.tells → AreReadOrTold (d.reading (disk_of scanning)) g.spots.items
   pub numbered : AreNumbered g

@@ -21,7 +21,7 @@ use Rattle.warc_text.specs.Books.{IsGroupText, IsVolumeText, RefersBy, joined, s
 use Rattle.warc_text.specs.Growth.{SoundVolumesHaveOneText}
 use Rattle.warc_text.specs.Lengths.{IsShort, ended_length, info_block_length, info_length, request_length, response_length, revisit_length}
 use Rattle.warc_text.specs.Lines.{cut_line, field}
-use Rattle.warc_text.specs.Records.{group_text, info_most, info_text}
+use Rattle.warc_text.specs.Records.{group_text, info_text}
 use Rattle.warc_text.specs.References.{Reference, reference_of, reference_to}
 use Rattle.warc_text.specs.Sound.{IsSound}
 use Rattle.warc_text.specs.declared.same_of.SameOf.{SameOf}
@@ -31,7 +31,7 @@ is_digest payload = record { length_is = sha1_length payload; bytes = sha1_small
 
 -- ---- a warcinfo
 
-pub short_info : (namespace : List ℕ) (volume born : ℕ) → volume < 2 ^ 32 → length (info_text namespace volume born) ≤ info_most
+pub short_info : (namespace : List ℕ) (volume born : ℕ) → volume < 2 ^ 32 → length (info_text namespace volume born) ≤ 512
 short_info namespace volume born small =
     let date : length (warc_date born) ≤ 24 = (short born).1 in
     let digits : length (decimal volume) ≤ 10 = length-decimal-le 10 volume (omega arith) (omega (arith, small)) (omega (arith, small)) in

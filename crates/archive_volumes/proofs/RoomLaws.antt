@@ -16,7 +16,6 @@ use Rattle.warc_journal.specs.Journals.{IsInStep, last_len, texts, volumes}
 use Rattle.warc_journal.specs.Texts.{with_more}
 use Rattle.warc_journal.specs.declared.journal.Journal.{Journal}
 use Rattle.warc_text.specs.Books.{AreVolumeTexts, IsGroupText, IsVolumeText}
-use Rattle.warc_text.specs.Records.{info_most}
 use Rattle.archive_shelf.specs.Gaining.{AreFilled, CapturesAddTheirGroup}
 use Rattle.archive_shelf.specs.Storing.{HasLast, NeedsVolume, new_volume, with_capture}
 use Rattle.archive_volumes.specs.Held.{is_filled}
@@ -68,7 +67,7 @@ few_volumes book filled = no_more book.volumes filled
 
 -- in a volume without a capture the text is short
 pub short_end : {D : Type 0} (journal : Journal D) (book : Book) → IsMeasured journal book → 0 < length book.volumes → is_filled book.volumes ≡ false
-    → last_len journal ≤ info_most
+    → last_len journal ≤ 512
 short_end journal book measured some empty =
     let k : ℕ = length book.volumes - 1 in
     let last : Volume = get_or book.volumes k (new_volume 0) in

@@ -20,7 +20,7 @@ use Rattle.warc_journal.specs.declared.journal.Journal.{Journal}
 use Rattle.warc_text.proofs.GrowthLaws.{GrowthKeeps, last_volume_goes_on, sealed_volumes_stay}
 use Rattle.warc_text.proofs.OneTextLaws.{one_group, volumes_have_one_text}
 use Rattle.warc_text.specs.Books.{AreVolumeTexts, IsGroupText}
-use Rattle.warc_text.specs.Records.{info_most, info_text}
+use Rattle.warc_text.specs.Records.{info_text}
 use Rattle.warc_text.specs.Sound.{IsSound}
 use Rattle.archive_shelf.proofs.GainingSoundness.{no_volumes, volumes_keep_soundness}
 use Rattle.archive_shelf.proofs.GainingTexts.{captures_add_their_group, last_placed, same_length, volumes_add_their_text}
@@ -189,7 +189,7 @@ measured_same old new book same len is = record {
   begins = λ k volume last at empty. omega (arith, len, is.begins k volume last at empty);
 }
 
-pub measured_volume : {D : Type 0} (old new : Journal D) (book : Book) (born : ℕ) → volumes new ≡ volumes old + 1 → last_len new ≤ info_most → AreFilled book
+pub measured_volume : {D : Type 0} (old new : Journal D) (book : Book) (born : ℕ) → volumes new ≡ volumes old + 1 → last_len new ≤ 512 → AreFilled book
     → IsMeasured old book → IsMeasured new (with_volume book born)
 measured_volume old new book born more len filled is =
     let long : length (book.volumes ++ new_volume born ∷ []) ≡ length book.volumes + 1 = length-append book.volumes (new_volume born ∷ []) in

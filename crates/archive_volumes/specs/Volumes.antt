@@ -10,7 +10,7 @@ use Rattle.warc_journal.specs.declared.journal.Journal.{Journal}
 use Rattle.warc_journal.specs.Texts.{AreJust}
 use Rattle.warc_journal.specs.Extents.{warc_files, cdxj_files}
 use Rattle.warc_text.specs.Books.{AreVolumeTexts}
-use Rattle.warc_text.specs.Records.{info_most, info_text}
+use Rattle.warc_text.specs.Records.{info_text}
 use Rattle.warc_text.specs.Sound.{IsSound}
 use Rattle.archive_shelf.specs.Openings.{CrashStates, HasIds, ImageStandsFor, IsNext, IsState, Keeps, KeepsCheckpoints, LeavesNoMore, Moves, SameBook, StaysCovered}
 use Rattle.archive_shelf.specs.Storing.{new_volume}
@@ -41,14 +41,14 @@ pub record IsMeasured {D : Type 0} (journal : Journal D) (book : Book) : Type 0 
       → 0 < length volume.captures
   pub ends : last_len journal < 2 ^ 62
   pub begins : (k : ℕ) (volume : Volume) → k + 1 ≡ length book.volumes → slice_get book.volumes k ≡ Some volume
-      → volume.captures ≡ [] → last_len journal ≤ info_most
+      → volume.captures ≡ [] → last_len journal ≤ 512
 
 -- a volume is prepared to be begun behind those of the book: with its text, and with room for one capture
 pub record IsPrepared (book : Book) (prepared : Prepared) : Type 0 where
   pub empty : volume_of prepared.shadow ≡ new_volume prepared.shadow.born
   pub space : HasSpace prepared.shadow
   pub info : prepared.info ≡ info_text book.namespace (length book.volumes) prepared.shadow.born
-  pub short : length prepared.info ≤ info_most
+  pub short : length prepared.info ≤ 512
 
 -- ---- what may be opened
 

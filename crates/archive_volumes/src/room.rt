@@ -3,7 +3,6 @@ ghost use Rattle.std.specs.Prelude.{◌≡◌, ◌+◌, ◌-◌, ◌^◌, ◌<�
 ghost use Rattle.capture.specs.Captures.{captures};
 ghost use Rattle.time_text.specs.Texts.{InRange};
 ghost use Rattle.warc_journal.specs.Journals.{last_len};
-ghost use Rattle.warc_text.specs.Records.{info_most};
 ghost use Rattle.archive_volumes.specs.Held.{book_of};
 ghost use Rattle.archive_volumes.specs.Writing.{HasRoomFor, IsDecided, IsNeeded, end_with};
 ghost use Rattle.archive_volumes.specs.Volumes.{IsMeasured};
@@ -53,7 +52,7 @@ impl<D: Disk> Volumes<D> {
         requires measured { IsMeasured self.old.journal (book_of self.old.held) }
         requires few { length (captures (book_of self.old.held)) < 2 ^ 32 - 1 }
         requires date { InRange date }
-        requires group { group + info_most < 2 ^ 62 }
+        requires group { group + 512 < 2 ^ 62 }
         requires limit { limit < 2 ^ 62 }
         ensures room { IfOk result (HasRoomFor self.new) }
         ensures decided { IfOk result (IsDecided limit (book_of self.old.held) (last_len self.old.journal) group) }

@@ -10,7 +10,7 @@ use measuring::{NOON, Stopped};
 use std::alloc::Global;
 use uuid::Uuid;
 use warc_journal::{Extent, Further, Journal};
-use warc_text::{INFO_MOST, group_text, info_text, texts_are_committed};
+use warc_text::{group_text, info_text, texts_are_committed};
 
 /// No volume gets longer, and no group.
 const LONGEST: u64 = 1 << 40;
@@ -45,7 +45,7 @@ pub fn begin<D: Disk>(
         return Err(Stopped::Memory);
     }
     let info = info_text(alloc, namespace, number, NOON)?;
-    if info.as_slice().len() as u64 > INFO_MOST {
+    if info.as_slice().len() as u64 > LONGEST {
         return Err(Stopped::Memory);
     }
     match journal.roll(info.as_slice()) {

@@ -22,12 +22,11 @@ pub record HoldsText (commit : ℕ) (text file : List ℕ) : Type 0 where
   pub unfinished : IsRest commit rest
   pub composed : file ≡ text ++ rest
 
--- The files hold the texts: each but the last has just its text, the last may go on with an unfinished tail, and at most
--- one file stands behind it, with no more than such a tail, which is no longer than `most` bytes.
-pub record HoldsTexts (commit most : ℕ) (texts files : List (List ℕ)) : Type 0 where
+-- the files hold the texts: each but the last has just its text, the last may go on with an unfinished tail, and at most
+-- one file stands behind it, with no more than that
+pub record HoldsTexts (commit : ℕ) (texts files : List (List ℕ)) : Type 0 where
   pub enough : length texts ≤ length files
   pub one_more : length files ≤ length texts + 1
   pub sealed : (k : ℕ) → k + 1 < length texts → slice_index_or files k [] ≡ slice_index_or texts k []
   pub last : (k : ℕ) → k + 1 ≡ length texts → HoldsText commit (slice_index_or texts k []) (slice_index_or files k [])
   pub further : (k : ℕ) → k < length files → length texts ≤ k → IsRest commit (slice_index_or files k [])
-  pub short : (k : ℕ) → k < length files → length texts ≤ k → length (slice_index_or files k []) ≤ most

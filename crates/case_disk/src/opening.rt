@@ -14,7 +14,6 @@ use disk_model::{Disk, MemoryDisk};
 use std::alloc::Global;
 use volume_scan::{Found, ScanFault, Scanning};
 use warc_journal::{Journal, Place};
-use warc_text::INFO_MOST;
 
 /// How many captures are read at most.
 const MOST: u32 = 1_000_000;
@@ -388,7 +387,7 @@ fn roll<D: Disk>(journal: &mut Journal<D>, text: &[u8]) -> bool
     requires { IsTrue D.tells → IsInStep D.Disk journal.old }
     ensures { IsTrue D.tells → IsInStep D.Disk journal.new }
 {
-    if !is_addable(text) || text.len() as u64 > INFO_MOST || journal.volumes() == u32::MAX {
+    if !is_addable(text) || journal.volumes() == u32::MAX {
         return false;
     }
     journal.roll(text).is_ok()

@@ -22,7 +22,6 @@ stands namespace uuid = record {
       sealed = λ k less. absurd (omega (arith, less));
       last = λ k is. absurd (omega (arith, is));
       further = λ k less past. absurd (omega (arith, less));
-      short = λ k less past. absurd (omega (arith, less));
     };
   };
   sound = (nothing_read None namespace uuid).sound;

@@ -1,7 +1,6 @@
 mod Appending
 mod Bytes
 mod Closing
-mod Lengths
 mod Mending
 mod Putting
 mod Results

@@ -1,5 +1,5 @@
 -- What files with finished texts hold, and what calls on one of them leave.
-use Rattle.std.specs.Prelude.{◌≡◌, ◌⊎◌, ◌<◌, ◌≤◌, ℕ, false, List, ◌++◌, length, take}
+use Rattle.std.specs.Prelude.{◌≡◌, ◌⊎◌, ◌<◌, ℕ, false, List, ◌++◌, take}
 use Rattle.disk_model.specs.Crash.{HasFile, Leaves, OnFile}
 use Rattle.disk_model.specs.Image.{Image, file_count, file_of, with_file}
 use Rattle.capture.specs.Tails.{HoldsText}
@@ -9,10 +9,6 @@ use Rattle.gated_file.specs.declared.file.GatedFile.{GatedFile}
 -- the bytes of the file
 abbrev pub bytes_of : GatedFile → Image → List ℕ
 bytes_of gated image = file_of image gated.kind gated.file
-
--- the file is no longer than this, in bytes
-abbrev pub IsWithin : GatedFile → ℕ → Image → Type 0
-IsWithin gated most image = length (bytes_of gated image) ≤ most
 
 -- the finished text: the file up to its end
 abbrev pub text_of : GatedFile → Image → List ℕ

@@ -1,11 +1,11 @@
 //! A file of finished texts, and how one more is added.
-ghost use Rattle.std.specs.Prelude.{◌≡◌, ◌≢◌, ◌⊎◌, ◌↔◌, ◌+◌, ◌<◌, ◌≤◌, ◌^◌, ℕ, true, false, [], ◌∷◌, ◌++◌, length, is_err, is_ok, if◌then◌else◌, IsTrue, IfOk, OnOk, OnErr};
+ghost use Rattle.std.specs.Prelude.{◌≡◌, ◌≢◌, ◌⊎◌, ◌↔◌, ◌+◌, ◌<◌, ◌≤◌, ◌^◌, true, false, [], ◌∷◌, ◌++◌, length, is_err, is_ok, if◌then◌else◌, IsTrue, IfOk, OnOk, OnErr};
 ghost use Rattle.capture.specs.Faults.{CountsFaults};
 ghost use Rattle.disk_model.specs.Crash.{Torn, Cut, OnFile, Within, Follows, Stepped, Leaves};
 ghost use Rattle.disk_model.specs.Image.{file_count, with_file, written};
 ghost use Rattle.disk_model.specs.Moments.{AddsOnly};
 ghost use Rattle.capture.specs.Tails.{IsCommitted, IsRest};
-ghost use Rattle.gated_file.specs.Files.{bytes_of, text_of, IsWithin, IsEnded, IsKnown, KeepsText, IsFinished, IsAdded, IsEither};
+ghost use Rattle.gated_file.specs.Files.{bytes_of, text_of, IsEnded, IsKnown, KeepsText, IsFinished, IsAdded, IsEither};
 ghost use Rattle.gated_file.specs.steps.Mending.{rest_of, IsSynced};
 
 use capture::Failed;
@@ -67,13 +67,6 @@ impl GatedFile {
         ensures known { IsTrue D.tells → IsKnown self.old (D.reading disk.old) (D.images disk.old)
             → IsKnown self.new (D.reading disk.new) (D.images disk.new) }
 
-        // How long the file gets: no longer than it was, or than it has to be for the text.
-        ensures within { IsTrue D.tells → (most : ℕ) → IsWithin self.old most (D.reading disk.old)
-            → self.old.end + length text.now ≤ most → IsWithin self.old most (D.reading disk.new) }
-        ensures leaves_within { IsTrue D.tells → (most : ℕ) → IsKnown self.old (D.reading disk.old) (D.images disk.old)
-            → IsWithin self.old most (D.reading disk.old) → self.old.end + length text.now ≤ most
-            → AddsOnly D.moment D.images_since disk.old disk.new (IsWithin self.old most) }
-
         // How much the moment goes on: by the three steps, and by the mending of a file that is dirty.
         ensures quick { D.moment disk.new ≤ D.moment disk.old + (if self.old.is_dirty then 13 else 6) }
 
@@ -111,12 +104,6 @@ impl GatedFile {
             (IsAdded self.old (D.reading disk.old) (D.images disk.old) [])) }
         ensures known { IsTrue D.tells → IsKnown self.new (D.reading disk.new) (D.images disk.new) }
 
-        // How long the file gets: no longer than it was.
-        ensures within { IsTrue D.tells → (most : ℕ) → IsWithin self.old most (D.reading disk.old)
-            → IsWithin self.old most (D.reading disk.new) }
-        ensures leaves_within { IsTrue D.tells → (most : ℕ) → IsWithin self.old most (D.reading disk.old)
-            → AddsOnly D.moment D.images_since disk.old disk.new (IsWithin self.old most) }
-
         ensures quick { D.moment disk.new ≤ D.moment disk.old + 7 }
 
         ensures faults { CountsFaults (D.faults disk.old) (D.faults disk.new) result }
@@ -141,10 +128,6 @@ impl GatedFile {
             AddsOnly D.moment D.images_since disk.old disk.new (IsFinished self.now (D.reading disk.old) (D.images disk.old)) }
         ensures only { IsTrue D.tells → IsKnown self.now (D.reading disk.old) (D.images disk.old) → OnOk result
             (Leaves (D.images disk.new) (IsAdded self.now (D.reading disk.old) (D.images disk.old) [])) }
-        ensures within { IsTrue D.tells → (most : ℕ) → IsWithin self.now most (D.reading disk.old)
-            → IsWithin self.now most (D.reading disk.new) }
-        ensures leaves_within { IsTrue D.tells → (most : ℕ) → IsWithin self.now most (D.reading disk.old)
-            → AddsOnly D.moment D.images_since disk.old disk.new (IsWithin self.now most) }
         ensures quick { D.moment disk.new ≤ D.moment disk.old + (if self.now.is_dirty then 7 else 0) }
         ensures faults { CountsFaults (D.faults disk.old) (D.faults disk.new) result }
     {
@@ -166,10 +149,6 @@ impl GatedFile {
             AddsOnly D.moment D.images_since disk.old disk.new (IsFinished self.now (D.reading disk.old) (D.images disk.old)) }
         ensures only { IsTrue D.tells → OnOk result (Leaves (D.images disk.new)
             (IsAdded self.now (D.reading disk.old) (D.images disk.old) [])) }
-        ensures within { IsTrue D.tells → (most : ℕ) → IsWithin self.now most (D.reading disk.old)
-            → IsWithin self.now most (D.reading disk.new) }
-        ensures leaves_within { IsTrue D.tells → (most : ℕ) → IsWithin self.now most (D.reading disk.old)
-            → AddsOnly D.moment D.images_since disk.old disk.new (IsWithin self.now most) }
         ensures quick { D.moment disk.new ≤ D.moment disk.old + 7 }
         ensures faults { CountsFaults (D.faults disk.old) (D.faults disk.new) result }
     {
@@ -193,11 +172,6 @@ impl GatedFile {
             AddsOnly D.moment D.images_since disk.old disk.new (IsEither self.now (D.reading disk.old) (D.images disk.old) text.now) }
         ensures only { IsTrue D.tells → IsEnded self.now (D.reading disk.old) (D.images disk.old) → OnOk result
             (Leaves (D.images disk.new) (IsAdded self.now (D.reading disk.old) (D.images disk.old) text.now)) }
-        ensures within { IsTrue D.tells → (most : ℕ) → IsWithin self.now most (D.reading disk.old)
-            → self.now.end + length text.now ≤ most → IsWithin self.now most (D.reading disk.new) }
-        ensures leaves_within { IsTrue D.tells → (most : ℕ) → IsEnded self.now (D.reading disk.old) (D.images disk.old)
-            → self.now.end + length text.now ≤ most
-            → AddsOnly D.moment D.images_since disk.old disk.new (IsWithin self.now most) }
         ensures quick { D.moment disk.new ≤ D.moment disk.old + 6 }
         ensures faults { CountsFaults (D.faults disk.old) (D.faults disk.new) result }
     {
@@ -218,11 +192,6 @@ impl GatedFile {
             (IsSynced self.now (D.reading disk.new) (D.images disk.new)) }
         ensures leaves { IsTrue D.tells → IsSynced self.now (D.reading disk.old) (D.images disk.old) →
             AddsOnly D.moment D.images_since disk.old disk.new (IsFinished self.now (D.reading disk.old) (D.images disk.old)) }
-        ensures within { IsTrue D.tells → (most : ℕ) → IsWithin self.now most (D.reading disk.old)
-            → IsWithin self.now most (D.reading disk.new) }
-        ensures leaves_within { IsTrue D.tells → (most : ℕ) → IsSynced self.now (D.reading disk.old) (D.images disk.old)
-            → IsWithin self.now most (D.reading disk.old)
-            → AddsOnly D.moment D.images_since disk.old disk.new (IsWithin self.now most) }
         ensures quick { D.moment disk.new ≤ D.moment disk.old + (if is_ok result then 4 else 5) }
         ensures faults { CountsFaults (D.faults disk.old) (D.faults disk.new) result }
     {
@@ -266,8 +235,6 @@ impl GatedFile {
             IsSynced self.now (D.reading disk.old) (D.images disk.old) →
             AddsOnly D.moment D.images_since disk.old disk.new (Stepped
             (OnFile self.now.kind self.now.file (Torn self.now.end 1)) (D.images disk.old)) }
-        ensures within { IsTrue D.tells → (most : ℕ) → IsWithin self.now most (D.reading disk.old) → self.now.end < most
-            → IsWithin self.now most (D.reading disk.new) }
         ensures quick { D.moment disk.new ≤ D.moment disk.old + (if is_ok result then 2 else 3) }
         ensures faults { CountsFaults (D.faults disk.old) (D.faults disk.new) result }
     {

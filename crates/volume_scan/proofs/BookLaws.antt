@@ -12,7 +12,7 @@ use Rattle.capture.specs.declared.book.Volume.{Volume}
 use Rattle.record_opening.specs.InfoAnswers.{BeginsWithInfo}
 use Rattle.warc_text.specs.Books.{IsGroupText, IsVolumeText, joined}
 use Rattle.warc_text.specs.Growth.{SoundVolumesHaveOneText}
-use Rattle.warc_text.specs.Records.{info_most, info_text}
+use Rattle.warc_text.specs.Records.{info_text}
 use Rattle.warc_text.specs.Sound.{IsSound}
 use Rattle.warc_text.specs.StandsFor.{StandsFor, commit_byte}
 use Rattle.warc_text.proofs.GroupLaws.{groups_are_committed}
@@ -71,10 +71,6 @@ module _ (book : Book) (files : List (List ℕ)) (sound : IsSound book) (stands 
   -- behind all volumes there is one file at most, which holds nothing or a tail
   pub further_is_rest : (k : ℕ) → length book.volumes ≤ k → k < length files → IsRest commit_byte (get_or files k [])
   further_is_rest k past there = stands.held.further k there (omega (arith, past, count))
-
-  -- and is no longer than a warcinfo may be
-  pub further_is_short : (k : ℕ) → length book.volumes ≤ k → k < length files → length (get_or files k []) ≤ info_most
-  further_is_short k past there = stands.held.short k there (omega (arith, past, count))
 
   pub one_further : length files ≤ length book.volumes + 1
   one_further = omega (arith, stands.held.one_more, count)

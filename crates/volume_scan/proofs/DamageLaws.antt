@@ -15,7 +15,7 @@ use Rattle.volume_scan.specs.Damage.{GroupIsDamaged, NextIsNoVolume, TailIsFollo
 use Rattle.volume_scan.specs.Unread.{unread}
 use Rattle.volume_scan.specs.declared.position.Position.{Position}
 use Rattle.volume_scan.specs.declared.position.Stage.TheVariants.{Skipped}
-use Rattle.volume_scan.proofs.BookLaws.{begins_with_info, first_behind, further_is_rest, further_is_short, info_committed, one_further, rest_is_uncommitted, tail_is_last}
+use Rattle.volume_scan.proofs.BookLaws.{begins_with_info, first_behind, further_is_rest, info_committed, one_further, rest_is_uncommitted, tail_is_last}
 use Rattle.warc_scan.proofs.FoundGroups.{group_found, group_is_found}
 use Rattle.volume_scan.proofs.Texts.{behind_is, length_texts, text_last}
 
@@ -85,10 +85,8 @@ module _ (one : SoundVolumesHaveOneText) (position : Position) (files : List (Li
         | inr past ↦ ⊎_elim
             (λ committed. rest_is_uncommitted (get_or files file []) (further_is_rest book files sound stands one file past damaged.there) committed)
             (⊎_elim
-            (λ long. omega (arith, long, further_is_short book files sound stands one file past damaged.there))
-            (⊎_elim
             (λ more. omega (arith, more, past, one_further book files sound stands one))
-            (λ skipped. kept skipped)))
+            (λ skipped. kept skipped))
             damaged.cause
       ]
 

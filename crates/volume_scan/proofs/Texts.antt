@@ -12,11 +12,9 @@ use Rattle.warc_journal.specs.Texts.{Hold, with_more}
 use Rattle.warc_journal.specs.declared.extent.Extent.{Extent}
 use Rattle.warc_journal.specs.declared.extent.Further.{Further}
 use Rattle.warc_journal.specs.declared.extent.Further.TheVariants.{Absent, Empty, Unknown}
-use Rattle.warc_text.specs.Records.{info_most}
 use Rattle.warc_text.specs.StandsFor.{commit_byte}
 use Rattle.volume_scan.specs.Books.{FilesBeginWithWhatWasRead}
 use Rattle.volume_scan.specs.Unread.{IsBehind, IsFurthest, file_at}
-use Rattle.volume_scan.specs.steps.Next.{IsFurther}
 
 -- a Warc file of an image
 pub file_is : (image : Image) (k : ℕ) → file_of image Warc k ≡ file_at (warc_files image) k
@@ -129,13 +127,6 @@ pub rest_of : (is_dirty : Bool) (rest : List ℕ) → IsBehind is_dirty rest →
 rest_of false rest is = inl is
 rest_of true rest is = inr is
 
--- a short file that holds nothing or a tail, where no other follows
-pub is_furthest : (further : Further) (v : ℕ) (files : List (List ℕ)) → IsFurther further (file_at files v) → length files ≡ v + 1
-    → length (file_at files v) ≤ info_most → IsFurthest further v files
-is_furthest Absent v files is one short = absurd is
-is_furthest Empty v files is one short = (one, is)
-is_furthest Unknown v files is one short = (one, is, short)
-
 -- there is one further file at most, and it holds nothing or a tail
 one_further : (further : Further) (v : ℕ) (files : List (List ℕ)) → IsFurthest further v files → length files ≤ v + 1
 one_further Absent v files is = omega (arith, is)
@@ -146,11 +137,6 @@ further_rest : (further : Further) (v : ℕ) (files : List (List ℕ)) → IsFur
 further_rest Absent v files is there = absurd (omega (arith, is, there))
 further_rest Empty v files is there = inl is.1
 further_rest Unknown v files is there = inr is.1
-
-further_short : (further : Further) (v : ℕ) (files : List (List ℕ)) → IsFurthest further v files → v < length files → length (get_or files v []) ≤ info_most
-further_short Absent v files is there = absurd (omega (arith, is, there))
-further_short Empty v files is there = omega (arith, ap length is.1)
-further_short Unknown v files is there = is.2
 
 further_absent : (further : Further) (v : ℕ) (files : List (List ℕ)) → v ≤ length files → IsFurthest further v files → further ≡ Absent → length files ≡ v
 further_absent Absent v files enough is e = omega (arith, enough, is)
@@ -187,8 +173,6 @@ module _ (extent : Extent) (files : List (List ℕ)) (is_dirty : Bool) (further 
         };
         further = λ k less past. let at : extent.volumes ≡ k = omega (arith, less, past, count, one_further further extent.volumes files furthest) in
             subst (λ (i : ℕ). IsRest commit_byte (get_or files i [])) at (further_rest further extent.volumes files furthest (omega (arith, less, at)));
-        short = λ k less past. let at : extent.volumes ≡ k = omega (arith, less, past, count, one_further further extent.volumes files furthest) in
-            subst (λ (i : ℕ). length (get_or files i []) ≤ info_most) at (further_short further extent.volumes files furthest (omega (arith, less, at)));
       }
 
   -- what stands behind it is as the extent says

@@ -4,7 +4,6 @@ use Rattle.capture.specs.Tails.{IsCommitted, IsRest, IsTail}
 use Rattle.warc_scan.specs.Answers.{BeginsWithGroup}
 use Rattle.record_opening.specs.InfoAnswers.{BeginsWithInfo}
 use Rattle.warc_scan.specs.declared.group.Group.{Group}
-use Rattle.warc_text.specs.Records.{info_most}
 use Rattle.warc_text.specs.StandsFor.{commit_byte}
 use Rattle.volume_scan.specs.Unread.{file_at, unread}
 use Rattle.volume_scan.specs.declared.position.Position.{Position}
@@ -32,12 +31,11 @@ pub record TailIsFollowed (position : Position) (files : List (List ℕ)) (file 
   pub there : position.extent.volumes < length files
   pub follows : BeginsVolume files position.extent.volumes
 
--- why a further file may not be without a finished warcinfo: it begins with the commit byte and more, or it is longer than a
--- warcinfo may be, or another file follows, or the volume before it is skipped
+-- why a further file may not be without a finished warcinfo: it begins with the commit byte and more, or another file follows,
+-- or the volume before it is skipped
 abbrev pub IsNoFurther : Position → List (List ℕ) → ℕ → Type 0
 IsNoFurther position files file =
-    IsCommitted commit_byte (file_at files file) ⊎ (info_most < length (file_at files file)) ⊎ (file + 1 < length files)
-    ⊎ (position.stage ≡ Skipped)
+    IsCommitted commit_byte (file_at files file) ⊎ (file + 1 < length files) ⊎ (position.stage ≡ Skipped)
 
 -- behind what was read stands nothing or a tail, and the next file doesn't begin with a warcinfo, but isn't one that a stop leaves
 pub record NextIsNoVolume (position : Position) (files : List (List ℕ)) (file place : ℕ) : Type 0 where

@@ -3,7 +3,6 @@ use Rattle.std.specs.Prelude.{◌≡◌, ◌≤◌, ℕ, ◌+◌, ◌-◌, Bool,
 use Rattle.capture.specs.Tails.{IsTail}
 use Rattle.warc_journal.specs.declared.extent.Further.{Further}
 use Rattle.warc_journal.specs.declared.extent.Further.TheVariants.{Absent, Empty, Unknown}
-use Rattle.warc_text.specs.Records.{info_most}
 use Rattle.warc_text.specs.StandsFor.{commit_byte}
 use Rattle.volume_scan.specs.declared.position.Position.{Position}
 
@@ -25,5 +24,4 @@ IsBehind true rest = IsTail commit_byte rest
 abbrev pub IsFurthest : Further → ℕ → List (List ℕ) → Type 0
 IsFurthest Absent volumes files = length files ≤ volumes
 IsFurthest Empty volumes files = (length files ≡ volumes + 1) × (file_at files volumes ≡ [])
-IsFurthest Unknown volumes files =
-    (length files ≡ volumes + 1) × IsTail commit_byte (file_at files volumes) × (length (file_at files volumes) ≤ info_most)
+IsFurthest Unknown volumes files = (length files ≡ volumes + 1) × IsTail commit_byte (file_at files volumes)

@@ -1,9 +1,8 @@
 //! A part of a file, as it was read.
-ghost use Rattle.std.specs.Prelude.{◌≡◌, ◌+◌, ◌-◌, ◌<◌, ◌≤◌, ◌^◌, ℕ, IfOk, IsTrue, List, OnOk, drop, false, length, min, take, true, vec_len};
+ghost use Rattle.std.specs.Prelude.{◌≡◌, ◌+◌, ◌-◌, ◌<◌, ◌≤◌, ◌^◌, ℕ, IfOk, IsTrue, List, OnOk, drop, length, min, take, vec_len};
 ghost use Rattle.capture.specs.Faults.{CountsFaults};
 ghost use Rattle.warc_journal.specs.Extents.{warc_files};
 ghost use Rattle.warc_journal.specs.Journals.{Rests};
-ghost use Rattle.warc_text.specs.Records.{info_most};
 ghost use Rattle.volume_scan.specs.Unread.{file_at};
 ghost use Rattle.volume_scan.specs.steps.Readings.{CountsRead, IsAt};
 ghost use Rattle.volume_scan.specs.Windows.{IsInside, Shows};
@@ -12,7 +11,6 @@ use crate::ScanFault;
 use disk_model::{Disk, Kind};
 use std::alloc::{AllocError, Global};
 use warc_journal::DiskFault;
-use warc_text::INFO_MOST;
 
 /// The bytes of a file from a place on, as far as they were read.
 #[derive(Drop)]
@@ -44,14 +42,6 @@ impl Window {
         ensures { result ≡ self.now.len }
     {
         self.len
-    }
-
-    /// Whether the file is longer than a warcinfo may be.
-    pub fn is_long(&self) -> bool
-        ensures long { result ≡ true → info_most < self.now.len }
-        ensures short { result ≡ false → self.now.len ≤ info_most }
-    {
-        self.len > INFO_MOST
     }
 
     /// The bytes from a place on.

@@ -10,7 +10,6 @@ use Rattle.disk_model.proofs.MomentLaws.{weakened}
 use Rattle.disk_model.specs.declared.disk.Disk.{Ghosts}
 use Rattle.disk_model.specs.declared.kind.Kind.TheVariants.{Warc}
 use Rattle.gated_file.specs.Files.{HoldsAfter, HoldsBefore, HoldsEither, IsAdded, IsEither, IsFinished, IsKnown, KeepsText, Rewrites}
-use Rattle.warc_text.specs.Records.{info_most}
 use Rattle.warc_journal.specs.Journals.{Changes, IsInStep, IsLeft, texts}
 use Rattle.warc_journal.specs.Extents.{Reaches, cdxj_files, last_of, texts_in, warc_files}
 use Rattle.warc_journal.specs.Texts.{AreJust, AreSealed, HoldEither, IsFurtherEmpty, IsLastJust, with_more}
@@ -156,13 +155,6 @@ module _ {D : Type 0} (d : Ghosts D)
         let one : k ≡ l = omega (arith, is, at) in
         omega (arith, size, ap length (ap (λ (n : ℕ). get_or (warc_files (d.reading disk)) n []) one ∙ here))
 
-    -- the further file stays
-    short : old.extent.volumes < length (warc_files (d.reading disk)) → length (get_or (warc_files (d.reading disk)) old.extent.volumes []) ≤ info_most
-    short less =
-        let other : get_or (warc_files (d.reading disk)) old.extent.volumes [] ≡ get_or (warc_files (d.reading old.disk)) old.extent.volumes [] =
-        ap (λ (files : List (List ℕ)). get_or files old.extent.volumes []) read_now ∙ get_or-set_other (warc_files (d.reading old.disk)) l old.extent.volumes (own ++ more) [] (omega (arith, at)) in
-        omega (arith, in_step.short (omega (arith, less, read_count)), ap length other)
-
     -- the text was added
     pub add_in_step : IsInStep d (record { disk = disk; extent = record old.extent { end = old.extent.end + length more; is_dirty = false } })
     add_in_step = subst (λ (t : List (List ℕ)). Reaches grown t (d.reading disk) (d.images disk)) (sym texts_now) record {
@@ -173,7 +165,6 @@ module _ {D : Type 0} (d : Ghosts D)
       sealed = λ i left. after_sealed i (added i left);
       clean = λ is i left. after_last i (added i left);
       known = λ apart i left. after_further i (added i left);
-      short = short;
       absent = λ is. omega (arith, in_step.absent is, read_count);
       there = λ is i left. let r = added i left in
           omega (arith, in_step.there is r.before r.was, ap length (rewritten_warc l (d.images old.disk) (HoldsAfter (last_of old.extent) (d.reading old.disk) more) i r), length-set (warc_files r.before) l r.bytes);

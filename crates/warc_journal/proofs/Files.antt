@@ -4,7 +4,6 @@ use Rattle.std.proofs.lemmas.Bool.{cases_lt}
 use Rattle.std.proofs.lemmas.List.{append-nil, get_or-take, get_or_append_left, get_or_default, get_or_push, length-set, length-take-le, length_push, same_lists}
 use lib.ListN.{set}
 use Rattle.capture.specs.Tails.{HoldsText, IsRest}
-use Rattle.warc_text.specs.Records.{info_most}
 use Rattle.warc_text.specs.StandsFor.{commit_byte}
 use Rattle.warc_journal.specs.Extents.{texts_in}
 use Rattle.warc_journal.specs.Texts.{AreJust, AreSealed, Hold, IsFurtherEmpty, IsLastJust, with_more}
@@ -126,16 +125,16 @@ module _ (texts files : List (List ℕ)) (are : AreSealed texts files) where
   pub further_pushed : length files ≤ length texts → IsFurtherEmpty texts (files ++ [] ∷ [])
   further_pushed count k less behind = get_or_push files [] [] k (omega (arith, less, behind, count, are.enough, length_push files []))
 
+  -- files that are sealed hold the texts where the last one does, with a further one that is empty or unfinished
+  pub hold_of : ((k : ℕ) → k + 1 ≡ length texts → HoldsText commit_byte (get_or texts k []) (get_or files k []))
+      → ((k : ℕ) → k < length files → length texts ≤ k → IsRest commit_byte (get_or files k [])) → Hold texts files
+  hold_of last further = record { enough = are.enough; one_more = are.one_more; sealed = are.sealed; last = last; further = further }
+
   -- with nothing behind the texts they hold them, and are just these
   pub hold_just : IsLastJust texts files → IsFurtherEmpty texts files → Hold texts files
-  hold_just just empty = record {
-    enough = are.enough;
-    one_more = are.one_more;
-    sealed = are.sealed;
-    last = λ k is. record { rest = []; unfinished = inl refl; composed = just k is ∙ sym (append-nil (get_or texts k [])) };
-    further = λ k less behind. inl (empty k less behind);
-    short = λ k less behind. omega (arith, ap length (empty k less behind));
-  }
+  hold_just just empty =
+      hold_of (λ k is. record { rest = []; unfinished = inl refl; composed = just k is ∙ sym (append-nil (get_or texts k [])) })
+      (λ k less behind. inl (empty k less behind))
 
   pub are_just : IsLastJust texts files → IsFurtherEmpty texts files → AreJust texts files
   are_just just empty = ⊎_elim alone (λ more. inr (with_empty more)) (cases_lt (length files) (length texts + 1))
@@ -168,26 +167,22 @@ module _ (texts files : List (List ℕ)) (are : AreSealed texts files) where
         subst (λ (i : ℕ). HoldsText commit_byte (get_or texts i []) (get_or (set files file bytes) i [])) one
         (subst (λ (b : List ℕ). HoldsText commit_byte (get_or texts file []) b) (sym (get_or-set_same files file bytes [] (omega (arith, at, are.enough)))) holds);
     further = λ k less behind. inl (further_beside file bytes (omega (arith, at)) empty k less behind);
-    short = λ k less behind. omega (arith, ap length (further_beside file bytes (omega (arith, at)) empty k less behind));
   }
 
-  -- a further file that is written is empty or unfinished, and short, behind a last one that holds its text
+  -- a further file that is written is empty or unfinished, behind a last one that holds its text
   pub hold_further : (file : ℕ) (bytes : List ℕ) → file ≡ length texts
       → ((k : ℕ) → k + 1 ≡ length texts → HoldsText commit_byte (get_or texts k []) (get_or files k []))
-      → IsRest commit_byte bytes → length bytes ≤ info_most → Hold texts (set files file bytes)
-  hold_further file bytes at last rest small = record {
+      → IsRest commit_byte bytes → Hold texts (set files file bytes)
+  hold_further file bytes at last rest = record {
     enough = (sealed_set file bytes (omega (arith, at))).enough;
     one_more = (sealed_set file bytes (omega (arith, at))).one_more;
     sealed = (sealed_set file bytes (omega (arith, at))).sealed;
     last = λ k is. subst (λ (b : List ℕ). HoldsText commit_byte (get_or texts k []) b) (sym (get_or-set_other files file k bytes [] (omega (arith, is, at)))) (last k is);
-    further = λ k less behind. subst (IsRest commit_byte) (sym (here k less behind)) rest;
-    short = λ k less behind. omega (arith, small, ap length (here k less behind));
+    further = λ k less behind. let one : k ≡ file = omega (arith, less, behind, at, are.one_more, length-set files file bytes) in
+        subst (IsRest commit_byte)
+        (sym (ap (λ (i : ℕ). get_or (set files file bytes) i []) one ∙ get_or-set_same files file bytes [] (omega (arith, less, one, length-set files file bytes))))
+        rest;
   }
-    where
-      here : (k : ℕ) → k < length (set files file bytes) → length texts ≤ k → get_or (set files file bytes) k [] ≡ bytes
-      here k less behind =
-          let one : k ≡ file = omega (arith, less, behind, at, are.one_more, length-set files file bytes) in
-          ap (λ (i : ℕ). get_or (set files file bytes) i []) one ∙ get_or-set_same files file bytes [] (omega (arith, less, one, length-set files file bytes))
 
 -- the last text goes on, and so does its file
 module _ (texts files : List (List ℕ)) (are : AreSealed texts files) (file : ℕ) (bytes : List ℕ) (at : file + 1 ≡ length texts) where

@@ -1,5 +1,5 @@
 -- The last volume's file is mended, or a text is added to it: what that leaves.
-use Rattle.std.proofs.Common.{◌≡◌, ◌≢◌, ◌⊎◌, ◌<◌, ◌≤◌, ℕ, ◌+◌, ◌-◌, Bool, true, false, List, [], length, get_or, take, sym, ap, subst, ◌∙◌, ⊎_elim, arith, get_or-set_other, get_or-set_same}
+use Rattle.std.proofs.Common.{◌≡◌, ◌≢◌, ◌⊎◌, ◌<◌, ◌≤◌, ℕ, ◌+◌, ◌-◌, Bool, true, false, List, [], length, get_or, take, sym, ap, subst, ◌∙◌, ⊎_elim, arith, get_or-set_same}
 use Rattle.std.proofs.lemmas.List.{append-nil, length-set, length-take}
 use lib.ListN.{set}
 use Rattle.capture.specs.Tails.{HoldsText}
@@ -10,7 +10,6 @@ use Rattle.disk_model.proofs.MomentLaws.{weakened}
 use Rattle.disk_model.specs.declared.disk.Disk.{Ghosts}
 use Rattle.disk_model.specs.declared.kind.Kind.TheVariants.{Warc}
 use Rattle.gated_file.specs.Files.{HoldsBefore, IsAdded, IsFinished, KeepsText, Rewrites}
-use Rattle.warc_text.specs.Records.{info_most}
 use Rattle.warc_text.specs.StandsFor.{commit_byte}
 use Rattle.warc_journal.specs.Journals.{IsInStep, IsLeft, Prepares, texts}
 use Rattle.warc_journal.specs.Extents.{Reaches, cdxj_files, last_of, texts_in, warc_files}
@@ -72,13 +71,6 @@ module _ {D : Type 0} (d : Ghosts D)
         (λ i. get_or (read_now i) (one i) []) ∙ get_or-set_same (warc_files (d.reading old.disk)) l stays.bytes [] (omega (arith, at, in_step.enough)) in
         omega (arith, ap length here, ap length stays.step, last_within, length-take old.extent.end stays.bytes, length-take old.extent.end (file_of (d.reading old.disk) Warc l))
 
-    -- the further file stays
-    short : old.extent.volumes < length (warc_files (d.reading disk)) → length (get_or (warc_files (d.reading disk)) old.extent.volumes []) ≤ info_most
-    short less =
-        let other : get_or (warc_files (d.reading disk)) old.extent.volumes [] ≡ get_or (warc_files (d.reading old.disk)) old.extent.volumes [] =
-        ap (λ (files : List (List ℕ)). get_or files old.extent.volumes []) read_now ∙ get_or-set_other (warc_files (d.reading old.disk)) l old.extent.volumes stays.bytes [] (omega (arith, at)) in
-        omega (arith, in_step.short (omega (arith, less, read_count)), ap length other)
-
     module _ (Q : List ℕ → Type 0) (adds : AddsOnly d.moment d.images_since old.disk disk (Rewrites Warc (old.extent.volumes - 1) (d.images old.disk) Q)) where
       from : (i : Image) → d.images disk i → d.images old.disk i ⊎ Rewrites Warc l (d.images old.disk) Q i
       from = left_now d counts only old.disk disk (Rewrites Warc l (d.images old.disk) Q) adds
@@ -111,7 +103,6 @@ module _ {D : Type 0} (d : Ghosts D)
         sealed = sealed;
         clean = λ is. cc is;
         known = λ apart. empty;
-        short = short;
         absent = λ is. omega (arith, in_step.absent is, read_count);
         there = there;
         held = λ dirty unknown. absurd (known unknown);
@@ -130,7 +121,6 @@ module _ {D : Type 0} (d : Ghosts D)
             subst (IsLastJust ts) (sym (ap warc_files r.whole ∙ warc_written r.before l r.bytes))
             (last_set ts (warc_files r.before) (in_step.sealed r.before r.was) l r.bytes (at ∙ sym count) (r.described ∙ append-nil (take old.extent.end (file_of (d.reading old.disk) Warc l)) ∙ sym last_text));
         known = λ apart. empty;
-        short = short;
         absent = λ is. omega (arith, in_step.absent is, read_count);
         there = there;
         held = λ dirty. cc dirty;

@@ -1,13 +1,12 @@
 -- A further file is made: what that leaves.
 use Rattle.std.proofs.Common.{◌≡◌, ◌≢◌, ◌⊎◌, ◌<◌, ◌≤◌, ℕ, ◌+◌, false, List, [], ◌∷◌, ◌++◌, length, get_or, refl, sym, ap, subst, ◌∙◌, inl, inr, ⊎_elim, arith}
-use Rattle.std.proofs.lemmas.List.{get_or_append_left, get_or_push, length_push}
+use Rattle.std.proofs.lemmas.List.{get_or_append_left, length_push}
 use Rattle.disk_model.specs.Crash.{Elapses, Follows, HasFile, Leaves, MayCreate, Stepped}
 use Rattle.disk_model.specs.Image.{Image, file_count}
 use Rattle.disk_model.specs.steps.ImageLaws.{files_of-with_new, files_of-with_new_kind}
 use Rattle.disk_model.proofs.MomentLaws.{goes_on, none_added}
 use Rattle.disk_model.specs.declared.disk.Disk.{Ghosts}
 use Rattle.disk_model.specs.declared.kind.Kind.TheVariants.{Warc, Cdxj}
-use Rattle.warc_text.specs.Records.{info_most}
 use Rattle.warc_journal.specs.Journals.{IsInStep, IsLeft, Prepares, texts}
 use Rattle.warc_journal.specs.Extents.{Reaches, cdxj_files, texts_in, warc_files}
 use Rattle.warc_journal.specs.Texts.{AreSealed, Hold, IsFurtherEmpty, IsLastJust}
@@ -88,16 +87,6 @@ module _ {D : Type 0} (d : Ghosts D)
       (may_be_pushed n (d.reading old.disk) (d.reading disk) read) in
       omega (arith, in_step.within k is, ap length one)
 
-  short : old.extent.volumes < length (warc_files (d.reading disk)) → length (get_or (warc_files (d.reading disk)) old.extent.volumes []) ≤ info_most
-  short less =
-      ⊎_elim
-      (λ is. absurd (omega (arith, less, ap length is, in_step.absent absent)))
-      (λ more.
-      let none : get_or (warc_files (d.reading disk)) old.extent.volumes [] ≡ [] =
-      ap (λ (files : List (List ℕ)). get_or files old.extent.volumes []) more ∙ get_or_push (warc_files (d.reading old.disk)) [] [] old.extent.volumes (omega (arith, in_step.absent absent)) in
-      omega (arith, ap length none))
-      (may_be_pushed n (d.reading old.disk) (d.reading disk) read)
-
   -- a crash leaves the texts, with or without the file, also within a call that fails
   pub made_prepared : Prepares d old (record { disk = disk; extent = record old.extent { further = Empty } })
   made_prepared = record {
@@ -125,7 +114,6 @@ module _ {D : Type 0} (d : Ghosts D)
     sealed = λ i left. sealed i (follows i left);
     clean = λ is i left. just i (follows i left);
     known = λ apart. absurd (apart refl);
-    short = short;
     absent = λ is. cc is;
     there = λ is. cc is;
     held = λ dirty. cc (sym clean ∙ dirty);
@@ -140,7 +128,6 @@ module _ {D : Type 0} (d : Ghosts D)
     sealed = λ i left. sealed i (follows i left);
     clean = λ is i left. just i (follows i left);
     known = λ apart i left. empty i (follows i left);
-    short = short;
     absent = λ is. cc is;
     there = λ is i left. omega (arith, (durable i left).there, in_step.enough);
     held = λ dirty. cc (sym clean ∙ dirty);

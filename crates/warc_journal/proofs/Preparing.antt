@@ -1,5 +1,5 @@
 -- What stands behind the texts is taken away: what that leaves.
-use Rattle.std.proofs.Common.{◌≡◌, ◌⊎◌, ◌<◌, ◌≤◌, ℕ, ◌+◌, Bool, true, false, List, [], length, get_or, refl, sym, ap, subst, ◌∙◌, inl, inr, ⊎_elim, arith, get_or-set_other, Result, Ok, Err, OnErr, OnOk}
+use Rattle.std.proofs.Common.{◌≡◌, ◌⊎◌, ◌<◌, ◌≤◌, ℕ, ◌+◌, Bool, true, false, List, [], length, get_or, refl, sym, ap, subst, ◌∙◌, inl, ⊎_elim, arith, get_or-set_other, Result, Ok, Err, OnErr, OnOk}
 use Rattle.std.specs.Result.{IsErr}
 use Rattle.std.proofs.lemmas.Bool.{false≢true}
 use Rattle.std.proofs.lemmas.List.{append-nil, length-set}
@@ -13,10 +13,8 @@ use Rattle.disk_model.proofs.MomentLaws.{joined, now_has, weakened}
 use Rattle.disk_model.specs.declared.disk.Disk.{Ghosts}
 use Rattle.disk_model.specs.declared.kind.Kind.{Kind}
 use Rattle.disk_model.specs.declared.kind.Kind.TheVariants.{Warc, Cdxj}
-use Rattle.gated_file.specs.Files.{HoldsBefore, IsAdded, IsFinished, IsWithin, KeepsText, Rewrites}
-use Rattle.gated_file.specs.declared.file.GatedFile.{GatedFile}
-use Rattle.gated_file.proofs.RewriteLaws.{on_file_count, rewritten_bytes}
-use Rattle.warc_text.specs.Records.{info_most}
+use Rattle.gated_file.specs.Files.{HoldsBefore, IsAdded, IsFinished, KeepsText, Rewrites}
+use Rattle.gated_file.proofs.RewriteLaws.{on_file_count}
 use Rattle.warc_text.specs.StandsFor.{commit_byte}
 use Rattle.warc_journal.specs.Journals.{IsInStep, IsLeft, Prepares, texts}
 use Rattle.warc_journal.specs.Extents.{MakesNoFile, Reaches, cdxj_files, further_of, texts_in, warc_files}
@@ -64,18 +62,6 @@ left_by file images Q Description image is described = record {
   others = ap cdxj_files is.whole ∙ cdxj_written is.before file is.bytes;
   described = subst Description (sym (rewritten_warc file images Q image is)) described;
 }
-
--- what has two properties, where each is added alone
-pub both_added : {D : Type 0} (d : Ghosts D) (old new : D) (P Q : Image → Type 0) → AddsOnly d.moment d.images_since old new P → AddsOnly d.moment d.images_since old new Q
-    → AddsOnly d.moment d.images_since old new (λ image. P image × Q image)
-both_added d old new P Q first second = record {
-  later = first.later;
-  adds = λ t image le left. ⊎_elim (λ was. inl was) (λ p. ⊎_elim (λ was. inl was) (λ q. inr (p, q)) (second.adds t image le left)) (first.adds t image le left);
-}
-
--- the bytes of a file that is rewritten are as short as the file
-pub rewritten_short : (gated : GatedFile) (images : Image → Type 0) (Q : List ℕ → Type 0) (image : Image) → (is : Rewrites gated.kind gated.file images Q image) → IsWithin gated info_most image → length is.bytes ≤ info_most
-rewritten_short gated images Q image is small = omega (arith, small, ap length (rewritten_bytes gated images Q image is))
 
 -- a further file that is finished is empty or has an unfinished tail
 pub rest_of_further : (extent : Extent) (is_dirty : Bool) (reading : Image) (bytes : List ℕ) → HoldsBefore (further_of extent is_dirty) reading bytes → IsRest commit_byte bytes
@@ -130,9 +116,7 @@ module _ {D : Type 0} (d : Ghosts D)
     count = length_texts old.extent (warc_files (d.reading old.disk)) in_step.enough
 
     module _ (unknown : old.extent.further ≡ Unknown) (stays : KeepsText (further_of old.extent true) (d.reading old.disk) (d.reading disk))
-        (small : IsWithin (further_of old.extent true) info_most (d.reading disk))
-        (adds : AddsOnly d.moment d.images_since old.disk disk (λ image.
-        IsFinished (further_of old.extent true) (d.reading old.disk) (d.images old.disk) image × IsWithin (further_of old.extent true) info_most image)) where
+        (adds : AddsOnly d.moment d.images_since old.disk disk (IsFinished (further_of old.extent true) (d.reading old.disk) (d.images old.disk))) where
       abbrev Q : List ℕ → Type 0
       Q = HoldsBefore (further_of old.extent true) (d.reading old.disk)
 
@@ -145,23 +129,19 @@ module _ {D : Type 0} (d : Ghosts D)
       read_count : length (warc_files (d.reading disk)) ≡ length (warc_files (d.reading old.disk))
       read_count = ap length read_now ∙ length-set (warc_files (d.reading old.disk)) v stays.bytes
 
-      holds : (i : Image) → (is : Rewrites Warc v (d.images old.disk) Q i) → IsWithin (further_of old.extent true) info_most i → Hold ts (set (warc_files is.before) v is.bytes)
-      holds i is few =
+      holds : (i : Image) → (is : Rewrites Warc v (d.images old.disk) Q i) → Hold ts (set (warc_files is.before) v is.bytes)
+      holds i is =
           hold_further ts (warc_files is.before) (in_step.sealed is.before is.was) v is.bytes (sym count)
           (last_holds old.extent ts (d.reading old.disk) (d.images old.disk) in_step unknown is.before is.was)
           (rest_of_further old.extent true (d.reading old.disk) is.bytes is.described)
-          (rewritten_short (further_of old.extent true) (d.images old.disk) Q i is few)
 
-      abbrev Short : Image → Type 0
-      Short i = Rewrites Warc v (d.images old.disk) Q i × IsWithin (further_of old.extent true) info_most i
-
-      from : (i : Image) → d.images disk i → d.images old.disk i ⊎ Short i
-      from = left_now old.disk disk Short adds
+      from : (i : Image) → d.images disk i → d.images old.disk i ⊎ Rewrites Warc v (d.images old.disk) Q i
+      from = left_now old.disk disk (Rewrites Warc v (d.images old.disk) Q) adds
 
       pub further_leaves : AddsOnly d.moment d.images_since old.disk disk (IsLeft (d.images old.disk) (Hold (texts d old)))
       further_leaves =
-          weakened d.moment d.images_since old.disk disk Short (IsLeft (d.images old.disk) (Hold ts))
-          (λ i (is, few). left_by v (d.images old.disk) Q (Hold ts) i is (holds i is few)) adds
+          weakened d.moment d.images_since old.disk disk (Rewrites Warc v (d.images old.disk) Q) (IsLeft (d.images old.disk) (Hold ts))
+          (λ i is. left_by v (d.images old.disk) Q (Hold ts) i is (holds i is)) adds
 
       pub further_prepared : (is_dirty : Bool) (further : Further)
           → Prepares d old (record { disk = disk; extent = record old.extent { is_dirty = is_dirty; further = further } })
@@ -170,13 +150,13 @@ module _ {D : Type 0} (d : Ghosts D)
       sealed : (i : Image) → d.images disk i → AreSealed ts (warc_files i)
       sealed i left =
           ⊎_elim (in_step.sealed i)
-          (λ (is, few). subst (AreSealed ts) (sym (rewritten_warc v (d.images old.disk) Q i is)) (sealed_set ts (warc_files is.before) (in_step.sealed is.before is.was) v is.bytes (omega (arith, count))))
+          (λ is. subst (AreSealed ts) (sym (rewritten_warc v (d.images old.disk) Q i is)) (sealed_set ts (warc_files is.before) (in_step.sealed is.before is.was) v is.bytes (omega (arith, count))))
           (from i left)
 
       just : old.extent.is_dirty ≡ false → (i : Image) → d.images disk i → IsLastJust ts (warc_files i)
       just clean i left =
           ⊎_elim (in_step.clean clean i)
-          (λ (is, few). subst (IsLastJust ts) (sym (rewritten_warc v (d.images old.disk) Q i is)) (last_beside ts (warc_files is.before) (in_step.sealed is.before is.was) v is.bytes (omega (arith, count)) (in_step.clean clean is.before is.was)))
+          (λ is. subst (IsLastJust ts) (sym (rewritten_warc v (d.images old.disk) Q i is)) (last_beside ts (warc_files is.before) (in_step.sealed is.before is.was) v is.bytes (omega (arith, count)) (in_step.clean clean is.before is.was)))
           (from i left)
 
       within : (k : ℕ) → k + 1 ≡ v → old.extent.end ≤ length (get_or (warc_files (d.reading disk)) k [])
@@ -184,9 +164,6 @@ module _ {D : Type 0} (d : Ghosts D)
           let other : get_or (warc_files (d.reading disk)) k [] ≡ get_or (warc_files (d.reading old.disk)) k [] =
           ap (λ (files : List (List ℕ)). get_or files k []) read_now ∙ get_or-set_other (warc_files (d.reading old.disk)) v k stays.bytes [] (omega (arith, is)) in
           omega (arith, in_step.within k is, ap length other)
-
-      short : length (get_or (warc_files (d.reading disk)) v []) ≤ info_most
-      short = omega (arith, small, ap length (file_is (d.reading disk) v))
 
       -- where that failed, the further file is unknown still
       pub further_failed : IsInStep d (record { disk = disk; extent = old.extent })
@@ -198,10 +175,9 @@ module _ {D : Type 0} (d : Ghosts D)
         sealed = sealed;
         clean = just;
         known = λ apart. absurd (apart unknown);
-        short = λ less. short;
         absent = λ is. omega (arith, in_step.absent is, read_count);
         there = λ is. cc (sym unknown ∙ is);
-        held = λ dirty is i left. ⊎_elim (in_step.held dirty unknown i) (λ (r, few). subst (Hold ts) (sym (rewritten_warc v (d.images old.disk) Q i r)) (holds i r few)) (from i left);
+        held = λ dirty is i left. ⊎_elim (in_step.held dirty unknown i) (λ r. subst (Hold ts) (sym (rewritten_warc v (d.images old.disk) Q i r)) (holds i r)) (from i left);
       }
 
       -- and else it is empty
@@ -216,7 +192,6 @@ module _ {D : Type 0} (d : Ghosts D)
         clean = just;
         known = λ apart i left. let is = cleared i left in
             subst (IsFurtherEmpty ts) (sym (rewritten_warc v (d.images old.disk) (λ (b : List ℕ). b ≡ []) i is)) (further_set ts (warc_files is.before) (in_step.sealed is.before is.was) v is.bytes (sym count) is.described);
-        short = λ less. short;
         absent = λ is. cc is;
         there = λ is i left. let r = cleared i left in omega (arith, r.there, ap length (rewritten_warc v (d.images old.disk) (λ (b : List ℕ). b ≡ []) i r), length-set (warc_files r.before) v r.bytes);
         held = λ dirty is. cc is;
@@ -234,16 +209,10 @@ further_absent extent ts reading images fewer none count reaches = record {
   sealed = reaches.sealed;
   clean = reaches.clean;
   known = λ apart i left k less behind. absurd (none (omega (arith, fewer i left, less, behind, count)));
-  short = reaches.short;
   absent = λ is. omega (arith, reaches.enough, none);
   there = λ is. cc is;
   held = λ dirty is. cc is;
 }
-
--- a further file that is there is short
-pub further_small : {D : Type 0} (d : Ghosts D) (journal : Journal D) (is_dirty : Bool) → IsInStep d journal → journal.extent.volumes < length (warc_files (d.reading journal.disk))
-    → IsWithin (further_of journal.extent is_dirty) info_most (d.reading journal.disk)
-further_small d journal is_dirty in_step there = omega (arith, in_step.short there, ap length (file_is (d.reading journal.disk) journal.extent.volumes))
 
 -- how many texts a journal has
 pub texts_count : {D : Type 0} (d : Ghosts D) (journal : Journal D) → IsInStep d journal → length (texts d journal) ≡ journal.extent.volumes

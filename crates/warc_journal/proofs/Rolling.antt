@@ -10,8 +10,7 @@ use Rattle.disk_model.specs.Moments.{AddsOnly}
 use Rattle.disk_model.proofs.MomentLaws.{weakened}
 use Rattle.disk_model.specs.declared.disk.Disk.{Ghosts}
 use Rattle.disk_model.specs.declared.kind.Kind.TheVariants.{Warc}
-use Rattle.gated_file.specs.Files.{HoldsAfter, HoldsBefore, HoldsEither, IsAdded, IsEither, IsFinished, IsKnown, IsWithin, KeepsText, Rewrites}
-use Rattle.warc_text.specs.Records.{info_most}
+use Rattle.gated_file.specs.Files.{HoldsAfter, HoldsBefore, HoldsEither, IsAdded, IsEither, IsFinished, IsKnown, KeepsText, Rewrites}
 use Rattle.warc_journal.specs.Journals.{Changes, IsInStep, IsLeft, texts}
 use Rattle.warc_journal.specs.Extents.{Reaches, cdxj_files, further_of, texts_in, warc_files}
 use Rattle.warc_journal.specs.Texts.{AreJust, AreSealed, Hold, HoldEither, IsFurtherEmpty, IsLastJust}
@@ -19,7 +18,7 @@ use Rattle.warc_journal.specs.declared.extent.Extent.{Extent}
 use Rattle.warc_journal.specs.declared.extent.Further.TheVariants.{Absent, Empty, Unknown}
 use Rattle.warc_journal.specs.declared.journal.Journal.{Journal}
 use Rattle.warc_journal.proofs.Files.{are_just, hold_further, hold_just, last_beside, length_texts, new_further, new_last, new_sealed, sealed_set, texts_beside, texts_told}
-use Rattle.warc_journal.proofs.Preparing.{cdxj_written, failed_has, file_is, left_by, left_now, on_err, rest_of_further, rewritten_short, rewritten_warc, warc_written}
+use Rattle.warc_journal.proofs.Preparing.{cdxj_written, failed_has, file_is, left_by, left_now, on_err, rest_of_further, rewritten_warc, warc_written}
 
 -- The text is put into the further file, which is empty.
 module _ {D : Type 0} (d : Ghosts D)
@@ -62,32 +61,20 @@ module _ {D : Type 0} (d : Ghosts D)
   left_with : (Description : List (List ℕ) → Type 0) (Q : List ℕ → Type 0) (image : Image) → (is : Rewrites Warc v (d.images old.disk) Q image) → Description (warc_files image) → IsLeft (d.images old.disk) Description image
   left_with Description Q image is described = left_by v (d.images old.disk) Q Description image is (subst Description (rewritten_warc v (d.images old.disk) Q image is) described)
 
-  abbrev IsSmall : Image → Type 0
-  IsSmall = IsWithin (further_of old.extent false) info_most
-
-  -- an empty file is short
-  small_before : (image : Image) → d.images old.disk image → IsSmall image
-  small_before i was =
-      omega (arith, ap length (file_is i v ∙ in_step.known known i was v (in_step.there empty i was) (omega (arith, count))))
-
-  pub begin_small : IsWithin (further_of old.extent false) info_most (d.reading old.disk)
-  begin_small = small_before (d.reading old.disk) is_read
-
   -- an image in which the file is finished still holds the texts before
-  begin_left : (image : Image) → Rewrites Warc v (d.images old.disk) (HoldsBefore (further_of old.extent false) (d.reading old.disk)) image → IsSmall image → IsLeft (d.images old.disk) (Hold ts) image
-  begin_left image is small =
+  begin_left : (image : Image) → Rewrites Warc v (d.images old.disk) (HoldsBefore (further_of old.extent false) (d.reading old.disk)) image → IsLeft (d.images old.disk) (Hold ts) image
+  begin_left image is =
       left_by v (d.images old.disk) (HoldsBefore (further_of old.extent false) (d.reading old.disk)) (Hold ts) image is
       (hold_further ts (warc_files is.before) (in_step.sealed is.before is.was) v is.bytes (sym count)
       (hold_just ts (warc_files is.before) (in_step.sealed is.before is.was) (in_step.clean clean is.before is.was) (in_step.known known is.before is.was)).last
-      (rest_of_further old.extent false (d.reading old.disk) is.bytes is.described)
-      (rewritten_short (further_of old.extent false) (d.images old.disk) (HoldsBefore (further_of old.extent false) (d.reading old.disk)) image is small))
+      (rest_of_further old.extent false (d.reading old.disk) is.bytes is.described))
 
-  either_left : (image : Image) → Rewrites Warc v (d.images old.disk) (HoldsEither (further_of old.extent false) (d.reading old.disk) info) image → IsSmall image → IsLeft (d.images old.disk) (HoldEither ts (ts ++ info ∷ [])) image
-  either_left image is small = ⊎_elim before after is.described
+  either_left : (image : Image) → Rewrites Warc v (d.images old.disk) (HoldsEither (further_of old.extent false) (d.reading old.disk) info) image → IsLeft (d.images old.disk) (HoldEither ts (ts ++ info ∷ [])) image
+  either_left image is = ⊎_elim before after is.described
     where
       before : HoldsBefore (further_of old.extent false) (d.reading old.disk) is.bytes → IsLeft (d.images old.disk) (HoldEither ts (ts ++ info ∷ [])) image
       before holds =
-          let one = begin_left image (record { before = is.before; was = is.was; there = is.there; bytes = is.bytes; described = holds; whole = is.whole }) small in
+          let one = begin_left image (record { before = is.before; was = is.was; there = is.there; bytes = is.bytes; described = holds; whole = is.whole }) in
           record { before = one.before; was = one.was; others = one.others; described = inl one.described }
 
       after : HoldsAfter (further_of old.extent false) (d.reading old.disk) info is.bytes → IsLeft (d.images old.disk) (HoldEither ts (ts ++ info ∷ [])) image
@@ -96,14 +83,12 @@ module _ {D : Type 0} (d : Ghosts D)
           left_with (HoldEither ts (ts ++ info ∷ [])) (HoldsEither (further_of old.extent false) (d.reading old.disk) info) image is
           (inr (hold_just (ts ++ info ∷ []) (warc_files image) (after_sealed image r) (after_last image r) (after_further image r)))
 
-  -- what an append of the text leaves, in a file that stays short
-  abbrev pub IsBegun : Image → Type 0
-  IsBegun image = IsEither (further_of old.extent false) (d.reading old.disk) (d.images old.disk) info image × IsSmall image
+  begin_leaves : AddsOnly d.moment d.images_since old.disk disk (IsEither (further_of old.extent false) (d.reading old.disk) (d.images old.disk) info)
+      → AddsOnly d.moment d.images_since old.disk disk (IsLeft (d.images old.disk) (HoldEither ts (ts ++ info ∷ [])))
+  begin_leaves adds = weakened d.moment d.images_since old.disk disk (Rewrites Warc v (d.images old.disk) (HoldsEither (further_of old.extent false) (d.reading old.disk) info)) (IsLeft (d.images old.disk) (HoldEither ts (ts ++ info ∷ []))) either_left adds
 
-  begin_leaves : AddsOnly d.moment d.images_since old.disk disk IsBegun → AddsOnly d.moment d.images_since old.disk disk (IsLeft (d.images old.disk) (HoldEither ts (ts ++ info ∷ [])))
-  begin_leaves adds = weakened d.moment d.images_since old.disk disk IsBegun (IsLeft (d.images old.disk) (HoldEither ts (ts ++ info ∷ []))) (λ i (is, small). either_left i is small) adds
-
-  module _ (stays : KeepsText (further_of old.extent false) (d.reading old.disk) (d.reading disk)) (adds : AddsOnly d.moment d.images_since old.disk disk IsBegun) where
+  module _ (stays : KeepsText (further_of old.extent false) (d.reading old.disk) (d.reading disk))
+      (adds : AddsOnly d.moment d.images_since old.disk disk (IsEither (further_of old.extent false) (d.reading old.disk) (d.images old.disk) info)) where
     abbrev Q : List ℕ → Type 0
     Q = HoldsEither (further_of old.extent false) (d.reading old.disk) info
 
@@ -116,25 +101,21 @@ module _ {D : Type 0} (d : Ghosts D)
     stays_count : length (warc_files (d.reading disk)) ≡ length (warc_files (d.reading old.disk))
     stays_count = ap length read_stays ∙ length-set (warc_files (d.reading old.disk)) v stays.bytes
 
-    from : (i : Image) → d.images disk i → d.images old.disk i ⊎ IsBegun i
-    from = left_now d counts only old.disk disk IsBegun adds
-
-    small_now : (i : Image) → d.images disk i → IsSmall i
-    small_now i left = ⊎_elim (small_before i) (λ (is, small). small) (from i left)
+    from : (i : Image) → d.images disk i → d.images old.disk i ⊎ Rewrites Warc v (d.images old.disk) Q i
+    from = left_now d counts only old.disk disk (Rewrites Warc v (d.images old.disk) Q) adds
 
     -- refused, the further file is unknown
-    pub begin_failed : IsSmall (d.reading disk) → IsInStep d (record { disk = disk; extent = record old.extent { further = Unknown } })
-    begin_failed small = subst (λ (t : List (List ℕ)). Reaches (record old.extent { further = Unknown }) t (d.reading disk) (d.images disk)) (sym same) record {
+    pub begin_failed : IsInStep d (record { disk = disk; extent = record old.extent { further = Unknown } })
+    begin_failed = subst (λ (t : List (List ℕ)). Reaches (record old.extent { further = Unknown }) t (d.reading disk) (d.images disk)) (sym same) record {
       none = in_step.none;
       enough = omega (arith, in_step.enough, stays_count);
       one_more = omega (arith, in_step.one_more, stays_count);
       within = λ k is. let other : get_or (warc_files (d.reading disk)) k [] ≡ get_or (warc_files (d.reading old.disk)) k [] =
           ap (λ (files : List (List ℕ)). get_or files k []) read_stays ∙ get_or-set_other (warc_files (d.reading old.disk)) v k stays.bytes [] (omega (arith, is)) in
           omega (arith, in_step.within k is, ap length other);
-      sealed = λ i left. ⊎_elim (in_step.sealed i) (λ (is, small). subst (AreSealed ts) (sym (rewritten_warc v (d.images old.disk) Q i is)) (sealed_set ts (warc_files is.before) (in_step.sealed is.before is.was) v is.bytes (omega (arith, count)))) (from i left);
-      clean = λ _ i left. ⊎_elim (in_step.clean clean i) (λ (is, small). subst (IsLastJust ts) (sym (rewritten_warc v (d.images old.disk) Q i is)) (last_beside ts (warc_files is.before) (in_step.sealed is.before is.was) v is.bytes (omega (arith, count)) (in_step.clean clean is.before is.was))) (from i left);
+      sealed = λ i left. ⊎_elim (in_step.sealed i) (λ is. subst (AreSealed ts) (sym (rewritten_warc v (d.images old.disk) Q i is)) (sealed_set ts (warc_files is.before) (in_step.sealed is.before is.was) v is.bytes (omega (arith, count)))) (from i left);
+      clean = λ _ i left. ⊎_elim (in_step.clean clean i) (λ is. subst (IsLastJust ts) (sym (rewritten_warc v (d.images old.disk) Q i is)) (last_beside ts (warc_files is.before) (in_step.sealed is.before is.was) v is.bytes (omega (arith, count)) (in_step.clean clean is.before is.was))) (from i left);
       known = λ apart. absurd (apart refl);
-      short = λ less. omega (arith, small, ap length (file_is (d.reading disk) v));
       absent = λ is. cc is;
       there = λ is. cc is;
       held = λ dirty. cc (sym clean ∙ dirty);
@@ -151,8 +132,8 @@ module _ {D : Type 0} (d : Ghosts D)
       stays = on_err _ result same;
       refused = on_err _ result
           (⊎_elim
-          (λ kept. inl (λ i left. ⊎_elim (λ was. inl was) (λ is. inr (begin_left i is (small_now i left))) (kept i left)))
-          (λ fors. inr (λ i left. either_left i (fors i left) (small_now i left)))
+          (λ kept. inl (λ i left. ⊎_elim (λ was. inl was) (λ is. inr (begin_left i is)) (kept i left)))
+          (λ fors. inr (λ i left. either_left i (fors i left)))
           refused);
       others = ap cdxj_files stays.whole ∙ cdxj_written (d.reading old.disk) v stays.bytes;
     }
@@ -205,14 +186,13 @@ module _ {D : Type 0} (d : Ghosts D)
       sealed = λ i left. after_sealed i (added i left);
       clean = λ is i left. after_last i (added i left);
       known = λ apart i left. after_further i (added i left);
-      short = λ less. absurd (omega (arith, less, read_count));
       absent = λ is. read_count;
       there = λ is. cc is;
       held = λ dirty. cc dirty;
     }
 
     pub begin_done : {T E : Type 0} (value : T)
-        → AddsOnly d.moment d.images_since old.disk disk IsBegun
+        → AddsOnly d.moment d.images_since old.disk disk (IsEither (further_of old.extent false) (d.reading old.disk) (d.images old.disk) info)
         → Changes {E = E} d old (record { disk = disk; extent = record { volumes = old.extent.volumes + 1; end = length info; is_dirty = false; further = Absent } }) (ts ++ info ∷ []) (Ok value)
     begin_done value adds = record {
       leaves = begin_leaves adds;

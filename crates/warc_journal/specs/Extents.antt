@@ -4,7 +4,6 @@ use Rattle.disk_model.specs.Crash.{Leaves}
 use Rattle.disk_model.specs.Image.{Image, files_of}
 use Rattle.disk_model.specs.declared.kind.Kind.TheVariants.{Warc, Cdxj}
 use Rattle.gated_file.specs.declared.file.GatedFile.{GatedFile}
-use Rattle.warc_text.specs.Records.{info_most}
 use Rattle.warc_text.specs.StandsFor.{commit_byte}
 use Rattle.warc_journal.specs.Texts.{AreSealed, Hold, IsFurtherEmpty, IsLastJust}
 use Rattle.warc_journal.specs.declared.extent.Extent.{Extent}
@@ -67,9 +66,9 @@ pub record IsFound (extent : Extent) (files : List (List ℕ)) : Type 0 where
   pub there : extent.further ≡ Empty → length files ≡ extent.volumes + 1
   pub empty : extent.further ≡ Empty → IsFurtherEmpty (texts_in extent files) files
 
--- The texts reach so far on a disk. A read gives them, and a further file that is no longer than a warcinfo may be. Each image
--- has them but for the last one, which may go on in any way where it is dirty, while the further file may hold anything where
--- it is unknown. Where it is dirty and the further file is unknown, each image holds the texts.
+-- The texts reach so far on a disk. A read gives them, and each image has them but for the last one, which may go on in any
+-- way where it is dirty, while the further file may hold anything where it is unknown. Where it is dirty and the further file
+-- is unknown, each image holds the texts.
 pub record Reaches (extent : Extent) (texts : List (List ℕ)) (reading : Image) (images : Image → Type 0) : Type 0 where
   pub none : extent.volumes ≡ 0 → extent.end ≡ 0
   pub enough : extent.volumes ≤ length (warc_files reading)
@@ -78,7 +77,6 @@ pub record Reaches (extent : Extent) (texts : List (List ℕ)) (reading : Image)
   pub sealed : Leaves images (λ image. AreSealed texts (warc_files image))
   pub clean : extent.is_dirty ≡ false → Leaves images (λ image. IsLastJust texts (warc_files image))
   pub known : extent.further ≢ Unknown → Leaves images (λ image. IsFurtherEmpty texts (warc_files image))
-  pub short : extent.volumes < length (warc_files reading) → length (slice_index_or (warc_files reading) extent.volumes []) ≤ info_most
   pub absent : extent.further ≡ Absent → length (warc_files reading) ≡ extent.volumes
   pub there : extent.further ≡ Empty → Leaves images (λ image. extent.volumes < length (warc_files image))
   pub held : extent.is_dirty ≡ true → extent.further ≡ Unknown → Leaves images (λ image. Hold texts (warc_files image))

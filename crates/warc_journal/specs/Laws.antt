@@ -60,7 +60,6 @@ just_are_held texts files (inl same) = record {
   sealed = λ k less. ap (λ (l : List (List ℕ)). get_or l k []) same;
   last = λ k is. record { rest = []; unfinished = inl refl; composed = ap (λ (l : List (List ℕ)). get_or l k []) same ∙ sym (append-nil (get_or texts k [])) };
   further = λ k less behind. absurd (omega (arith, less, behind, ap length same));
-  short = λ k less behind. absurd (omega (arith, less, behind, ap length same));
 }
 just_are_held texts files (inr more) = record {
   enough = omega (arith, ap length more, length_push texts []);
@@ -72,9 +71,6 @@ just_are_held texts files (inr more) = record {
     composed = ap (λ (l : List (List ℕ)). get_or l k []) more ∙ get_or_append_left texts ([] ∷ []) [] k (omega (arith, is)) ∙ sym (append-nil (get_or texts k []));
   };
   further = λ k less behind. inl (ap (λ (l : List (List ℕ)). get_or l k []) more ∙ get_or_push texts [] [] k (omega (arith, less, behind, ap length more, length_push texts [])));
-  short = λ k less behind.
-      let none : get_or files k [] ≡ [] = ap (λ (l : List (List ℕ)). get_or l k []) more ∙ get_or_push texts [] [] k (omega (arith, less, behind, ap length more, length_push texts [])) in
-      omega (arith, ap length none);
 }
 
 -- where a read gives the same Warc files, and a crash leaves those that it might have left, the texts reach as far
@@ -89,7 +85,6 @@ stay_beside extent texts old new before after read from reaches = record {
   sealed = λ i left. subst (AreSealed texts) (sym (from i left).same) (reaches.sealed (from i left).before (from i left).was);
   clean = λ is i left. subst (IsLastJust texts) (sym (from i left).same) (reaches.clean is (from i left).before (from i left).was);
   known = λ is i left. subst (IsFurtherEmpty texts) (sym (from i left).same) (reaches.known is (from i left).before (from i left).was);
-  short = λ less. omega (arith, reaches.short (omega (arith, less, ap length read)), ap length (ap (λ (l : List (List ℕ)). get_or l extent.volumes []) read));
   absent = λ is. omega (arith, reaches.absent is, ap length read);
   there = λ is i left. omega (arith, reaches.there is (from i left).before (from i left).was, ap length (from i left).same);
   held = λ dirty is i left. subst (Hold texts) (sym (from i left).same) (reaches.held dirty is (from i left).before (from i left).was);

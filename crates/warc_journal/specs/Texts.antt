@@ -1,7 +1,6 @@
 -- The texts of volumes, and the files that hold them.
 use Rattle.std.specs.Prelude.{◌≡◌, ◌⊎◌, ◌<◌, ◌≤◌, ℕ, ◌+◌, ◌-◌, List, [], ◌∷◌, ◌++◌, length, set, slice_index_or}
 use Rattle.capture.specs.Tails.{HoldsTexts}
-use Rattle.warc_text.specs.Records.{info_most}
 use Rattle.warc_text.specs.StandsFor.{commit_byte}
 
 -- the texts, the last one with more behind it
@@ -9,9 +8,9 @@ abbrev pub with_more : List (List ℕ) → List ℕ → List (List ℕ)
 with_more texts more = set texts (length texts - 1) (slice_index_or texts (length texts - 1) [] ++ more)
 
 -- the files hold the texts: a crash may have left an unfinished tail behind the last one, and one further file that holds
--- no more than the unfinished tail of a warcinfo
+-- no more than such a tail
 abbrev pub Hold : List (List ℕ) → List (List ℕ) → Type 0
-Hold texts files = HoldsTexts commit_byte info_most texts files
+Hold texts files = HoldsTexts commit_byte texts files
 
 -- the files hold the texts before or the texts after
 abbrev pub HoldEither : List (List ℕ) → List (List ℕ) → List (List ℕ) → Type 0

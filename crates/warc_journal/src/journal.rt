@@ -4,7 +4,6 @@ ghost use Rattle.std.specs.Borrow.{Lends, sem};
 ghost use Rattle.capture.specs.Faults.{CountsFaults};
 ghost use Rattle.capture.specs.Tails.{IsCommitted};
 ghost use Rattle.disk_model.specs.Crash.{Leaves};
-ghost use Rattle.warc_text.specs.Records.{info_most};
 ghost use Rattle.warc_text.specs.StandsFor.{commit_byte};
 ghost use Rattle.warc_journal.specs.Texts.{Hold, with_more};
 ghost use Rattle.warc_journal.specs.Extents.{AreVolumesSynced, IsClean, IsFound, MakesNoFile, further_mending, mending, warc_files};
@@ -98,7 +97,7 @@ impl<D: Disk> Journal<D> {
         requires in_step { IsTrue D.tells → IsInStep D.Disk self.old }
         requires number { volumes self.old < 2 ^ 32 - 1 }
         requires committed { IsCommitted commit_byte info.now }
-        requires short { length info.now ≤ info_most }
+        requires fits { length info.now < 2 ^ 63 }
         ensures change { IsTrue D.tells → Changes D.Disk self.old self.new
             (texts D.Disk self.old ++ info.now ∷ []) result }
         ensures in_step { IsTrue D.tells → IsInStep D.Disk self.new }

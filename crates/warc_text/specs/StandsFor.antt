@@ -7,7 +7,7 @@ use Rattle.capture.specs.declared.captured.Taken.{Taken}
 use Rattle.warc_text.specs.Books.{AreVolumeTexts, IsGroupText}
 use Rattle.warc_text.specs.Groups.{IdsDiffer}
 use Rattle.capture.specs.Tails.{HoldsTexts, IsCommitted}
-use Rattle.warc_text.specs.Records.{info_most, info_text, group_text}
+use Rattle.warc_text.specs.Records.{info_text, group_text}
 use Rattle.warc_text.specs.References.{Reference}
 use Rattle.warc_text.specs.Sound.{IsSound}
 
@@ -28,7 +28,7 @@ GroupsAreCommitted =
 pub record StandsFor (files : List (List ℕ)) (book : Book) : Type 0 where
   pub texts : List (List ℕ)
   pub are : AreVolumeTexts book texts
-  pub held : HoldsTexts commit_byte info_most texts files
+  pub held : HoldsTexts commit_byte texts files
 
 -- the ids of the book's responses differ
 abbrev pub IdsDifferIn : Book → Type 0

@@ -122,8 +122,8 @@ impl<D: Disk> Scanning<D> {
         }
     }
 
-    /// The end, before a file that holds nothing or a tail. That is no longer than a warcinfo may be and has to be the last
-    /// one, and a volume that was skipped has to be followed by another.
+    /// The end, before a file that holds nothing or a tail. It has to be the last one, and a volume that was skipped has to
+    /// be followed by another.
     fn end_before(
         &mut self,
         file: u32,
@@ -134,16 +134,12 @@ impl<D: Disk> Scanning<D> {
         requires not_done { (position_of self.old).stage ≢ IsDone }
         requires file { file ≡ (position_of self.old).extent.volumes }
         requires there { file < file_count self.old }
-        requires len { IsTrue D.tells → self.old.window.len ≡ length (file_at (files_in D.Disk self.old) file) }
         requires behind { IsTrue D.tells → IsBehind is_dirty (unread (position_of self.old) (files_in D.Disk self.old)) }
         requires holds { IsTrue D.tells → IsFurther further (file_at (files_in D.Disk self.old) file) }
         ensures comes { Comes D.Disk self.old self.new result }
         ensures headed { IfOk result IsHeaded }
     {
         if let Stage::Skipped = self.position.stage {
-            return Err(ScanFault::Damaged { file, place: 0 });
-        }
-        if self.window.is_long() {
             return Err(ScanFault::Damaged { file, place: 0 });
         }
         let last = self.files - 1;

@@ -2,7 +2,6 @@
 ghost use Rattle.std.specs.Prelude.{◌≡◌, ◌+◌, ◌-◌, ◌<◌, ◌≤◌, ◌^◌, ◌++◌, ◌∷◌, [], false, length, IsTrue, IfOk, OnOk, is_ok, if◌then◌else◌};
 ghost use Rattle.capture.specs.Faults.{CountsFaults};
 ghost use Rattle.capture.specs.Tails.{IsCommitted};
-ghost use Rattle.warc_text.specs.Records.{info_most};
 ghost use Rattle.warc_text.specs.StandsFor.{commit_byte};
 ghost use Rattle.warc_journal.specs.Extents.{IsClean, MakesNoFile};
 ghost use Rattle.warc_journal.specs.Journals.{Changes, IsInStep, disk_of, extent_of, last_len, texts, volumes};
@@ -54,7 +53,7 @@ impl<D: Disk> Journal<D> {
         requires empty { (extent_of self.old).further ≡ Empty }
         requires number { volumes self.old < 2 ^ 32 - 1 }
         requires committed { IsCommitted commit_byte info.now }
-        requires short { length info.now ≤ info_most }
+        requires fits { length info.now < 2 ^ 63 }
         ensures change { IsTrue D.tells → Changes D.Disk self.old self.new
             (texts D.Disk self.old ++ info.now ∷ []) result }
         ensures in_step { IsTrue D.tells → IsInStep D.Disk self.new }

@@ -29,8 +29,8 @@ roll-requires-clause-committed g c =
     subst (λ (t : List ℕ). IsCommitted commit_byte t) (sym (c.as_slice.ensures ∙ c.requires.prepared.info))
     (infos_are_committed book.namespace (length book.volumes) c.args.prepared.shadow.born)
 
-pub roll-requires-clause-short : goal.roll-requires-clause-short
-roll-requires-clause-short g c = omega (arith, ap length c.as_slice.ensures, c.requires.prepared.short)
+pub roll-requires-clause-fits : goal.roll-requires-clause-fits
+roll-requires-clause-fits g c = omega (arith, ap length c.as_slice.ensures, c.requires.prepared.short)
 
 -- ---- it is refused
 

@@ -1,7 +1,7 @@
 use Rattle.std.proofs.Common.{◌≡◌, ◌≤◌, ℕ, List, length, sym, ap, subst, ◌∙◌, arith}
 use Rattle.capture.specs.declared.book.Book.{Book}
 use Rattle.capture.specs.declared.book.Volume.{Volume}
-use Rattle.warc_text.specs.Records.{info_most, info_text}
+use Rattle.warc_text.specs.Records.{info_text}
 use Rattle.archive_shelf.proofs.ShortTexts.{short_info}
 use Rattle.archive_shelf.specs.Storing.{new_volume}
 use Rattle.archive_volumes.specs.Held.{book_of}
@@ -26,5 +26,5 @@ returns-clause-prepared g c =
       empty = volume ∙ sym (ap (λ (v : Volume). new_volume v.born) volume);
       space = c.in_ok-shadow.ensures.space;
       info = text ∙ sym (ap (λ (v : Volume). info_text book.namespace (length book.volumes) v.born) volume);
-      short = subst (λ (t : List ℕ). length t ≤ info_most) (sym c.in_ok-info.ensures) (short_info book.namespace c.volumes-number.result c.args.born (omega arith));
+      short = subst (λ (t : List ℕ). length t ≤ 512) (sym c.in_ok-info.ensures) (short_info book.namespace c.volumes-number.result c.args.born (omega arith));
     }

@@ -1,7 +1,6 @@
 -- The file is made clean, and the text is put there.
 use Rattle.std.proofs.Common.{inr}
-use Rattle.disk_model.proofs.MomentLaws.{joined}
-use Rattle.gated_file.specs.Files.{IsWithin, KeepsFront}
+use Rattle.gated_file.specs.Files.{KeepsFront}
 use Rattle.gated_file.proofs.Appending.{append_adds, append_ended, append_only, append_reading, append_refused, ended_mid, length_mid}
 use Rattle.gated_file.proofs.Mending.{stays_within}
 use Rattle.gated_file.proofs.Putting.{front_stays_twice}
@@ -110,29 +109,3 @@ returns-clause-known g c told known clean =
     (c.in_ok-put.ensures.added told (length_mid d.moment d.images_since d.images d.reading m.now_counts m.now_only gated more first mid (c.requires.there told) (c.requires.in_range told) (c.in_ok-clean.ensures.mended told known) (c.in_ok-clean.ensures.only told known) (c.clean.ensures.leaves told))))
     (append_only d.moment d.images_since d.images d.reading m.now_counts m.now_only gated more first mid (c.requires.there told) (c.requires.in_range told) (c.in_ok-clean.ensures.mended told known) (c.in_ok-clean.ensures.only told known) (c.clean.ensures.leaves told) new
     (c.in_ok-put.ensures.only told (ended_mid d.moment d.images_since d.images d.reading m.now_counts m.now_only gated more first mid (c.requires.there told) (c.requires.in_range told) (c.in_ok-clean.ensures.mended told known) (c.in_ok-clean.ensures.only told known) (c.clean.ensures.leaves told))))
-
-pub returns-in_err-put-clause-within : goal.returns-in_err-put-clause-within
-returns-in_err-put-clause-within g c told most was fits = c.put.ensures.within told most (c.clean.ensures.within told most was) fits
-
-pub returns-clause-within : goal.returns-clause-within
-returns-clause-within g c told most was fits = c.put.ensures.within told most (c.clean.ensures.within told most was) fits
-
-pub returns-in_err-put-clause-leaves_within : goal.returns-in_err-put-clause-leaves_within
-returns-in_err-put-clause-leaves_within g c told most known was fits =
-    let d = g.D.Disk in
-    let m = g.met.D.Disk in
-    let gated = c.args.self.now in
-    let first = c.args.disk.now in
-    let mid = c.clean.new.disk in
-    joined d.moment d.images_since first mid c.put.new.disk (IsWithin gated most) (c.clean.ensures.leaves_within told most was)
-    (c.put.ensures.leaves_within told most (ended_mid d.moment d.images_since d.images d.reading m.now_counts m.now_only gated c.args.text.now first mid (c.requires.there told) (c.requires.in_range told) (c.in_ok-clean.ensures.mended told known) (c.in_ok-clean.ensures.only told known) (c.clean.ensures.leaves told)) fits)
-
-pub returns-clause-leaves_within : goal.returns-clause-leaves_within
-returns-clause-leaves_within g c told most known was fits =
-    let d = g.D.Disk in
-    let m = g.met.D.Disk in
-    let gated = c.args.self.now in
-    let first = c.args.disk.now in
-    let mid = c.clean.new.disk in
-    joined d.moment d.images_since first mid c.put.new.disk (IsWithin gated most) (c.clean.ensures.leaves_within told most was)
-    (c.put.ensures.leaves_within told most (ended_mid d.moment d.images_since d.images d.reading m.now_counts m.now_only gated c.args.text.now first mid (c.requires.there told) (c.requires.in_range told) (c.in_ok-clean.ensures.mended told known) (c.in_ok-clean.ensures.only told known) (c.clean.ensures.leaves told)) fits)

@@ -3,8 +3,7 @@ use Rattle.std.proofs.Common.{◌≡◌, [], List, ℕ, refl, sym, ap, ◌∙◌
 use Rattle.std.proofs.lemmas.List.{append-nil}
 use Rattle.disk_model.specs.Image.{Image, with_file}
 use Rattle.disk_model.specs.steps.ImageLaws.{with_file-file_of}
-use Rattle.disk_model.proofs.MomentLaws.{none_added}
-use Rattle.gated_file.specs.Files.{HoldsAfter, IsWithin, KeepsFront, bytes_of, text_of}
+use Rattle.gated_file.specs.Files.{HoldsAfter, KeepsFront, bytes_of, text_of}
 use Rattle.gated_file.proofs.RewriteLaws.{on_file_same, rewrites_none}
 use Rattle.gated_file.proofs.file.GatedFile.clean.Goals as goal
 
@@ -26,6 +25,3 @@ returns-clause-only g c told known image left =
     let reading : Image = g.D.Disk.reading c.args.disk.now in
     let ended = known c.if-self.false image left in
     rewrites_none gated (g.D.Disk.images c.args.disk.now) (HoldsAfter gated reading []) image left ended.there (ended.same ∙ sym (append-nil (text_of gated reading)))
-
-pub returns-clause-leaves_within : goal.returns-clause-leaves_within
-returns-clause-leaves_within g c told most was = none_added g.D.Disk.moment g.D.Disk.images_since c.args.disk.now (IsWithin c.args.self.now most)

@@ -7,7 +7,6 @@ use Rattle.gated_file.proofs.Bytes.{closed_rest}
 use Rattle.gated_file.proofs.Closing.{after_sync, put_back_adds, torn_done, torn_either_way}
 use Rattle.gated_file.proofs.Putting.{front_stays, front_stays_twice, still_within}
 use Rattle.gated_file.proofs.RewriteLaws.{bytes_after, there_after}
-use Rattle.gated_file.proofs.Lengths.{torn_within}
 use Rattle.gated_file.proofs.file.GatedFile.close.Goals as goal
 
 pub sync-requires : goal.sync-requires
@@ -57,29 +56,3 @@ returns-clause-rest g c told =
     subst (λ (bytes : List ℕ). IsRest gated.commit (drop gated.end bytes))
     (sym (bytes_after gated.kind gated.file _ start (g.D.Disk.reading c.sync.new.self) (c.requires.there told) is))
     (closed_rest gated.commit gated.end (bytes_of gated start) c.requires.apart (c.requires.in_range told))
-
-pub returns-in_err-write_at-clause-within : goal.returns-in_err-write_at-clause-within
-returns-in_err-write_at-clause-within g c told most was less =
-    let gated = c.args.self.now in
-    torn_within gated most gated.end 1 (g.D.Disk.reading c.args.disk.now) (g.D.Disk.reading c.write_at.new.self) (omega (arith, less)) was (c.in_err-write_at.ensures.partial told)
-
-pub returns-then-is_err-clause-within : goal.returns-then-is_err-clause-within
-returns-then-is_err-clause-within g c told most was less =
-    let gated = c.args.self.now in
-    let start : Image = g.D.Disk.reading c.args.disk.now in
-    let two : Image = g.D.Disk.reading c.sync.new.self in
-    let three : Image = g.D.Disk.reading c.write_at-then-is_err.new.self in
-    let is : two ≡ with_file start gated.kind gated.file (written (bytes_of gated start) gated.end (45 ∷ [])) =
-    after_sync gated (written (bytes_of gated start) gated.end (45 ∷ [])) start (g.D.Disk.reading c.write_at.new.self) two (c.sync.ensures.reading told) (c.in_ok-write_at.ensures.written told) in
-    torn_within gated most gated.end 1 two three (omega (arith, less))
-    (torn_within gated most gated.end 1 start two (omega (arith, less)) was (torn_done gated 45 start two is))
-    (torn_either_way gated gated.commit two three c.write_at-then-is_err.result (c.write_at-then-is_err.ensures.written told) (c.write_at-then-is_err.ensures.partial told))
-
-pub returns-clause-within : goal.returns-clause-within
-returns-clause-within g c told most was less =
-    let gated = c.args.self.now in
-    let start : Image = g.D.Disk.reading c.args.disk.now in
-    let two : Image = g.D.Disk.reading c.sync.new.self in
-    let is : two ≡ with_file start gated.kind gated.file (written (bytes_of gated start) gated.end (45 ∷ [])) =
-    after_sync gated (written (bytes_of gated start) gated.end (45 ∷ [])) start (g.D.Disk.reading c.write_at.new.self) two (c.sync.ensures.reading told) (c.in_ok-write_at.ensures.written told) in
-    torn_within gated most gated.end 1 start two (omega (arith, less)) was (torn_done gated 45 start two is)

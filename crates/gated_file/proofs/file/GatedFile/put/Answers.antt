@@ -1,15 +1,12 @@
 -- Three steps, each with its sync.
-use Rattle.std.proofs.Common.{◌≡◌, ◌≤◌, ◌+◌, length, sym, arith}
+use Rattle.std.proofs.Common.{◌≡◌, ◌+◌, sym, arith}
 use Rattle.std.proofs.lemmas.List.{take_all}
 use Rattle.std.proofs.lemmas.Result.{on_ok_weaker}
-use Rattle.disk_model.specs.Crash.{Leaves}
 use Rattle.disk_model.specs.Image.{Image}
-use Rattle.disk_model.proofs.MomentLaws.{joined}
-use Rattle.gated_file.specs.Files.{IsWithin, bytes_of, text_of}
+use Rattle.gated_file.specs.Files.{bytes_of, text_of}
 use Rattle.gated_file.proofs.Putting.{front_stays, front_stays_twice, put_first, put_second, put_third, put_only, put_reading, second_within, still_within}
 use Rattle.gated_file.proofs.Results.{on_ok_both}
 use Rattle.gated_file.proofs.RewriteLaws.{there_after}
-use Rattle.gated_file.proofs.Lengths.{ended_within, head_fits, rest_fits, torn_adds, torn_leaves, torn_within}
 use Rattle.gated_file.proofs.file.GatedFile.put.Goals as goal
 
 pub write-requires-2-clause-in_range : goal.write-requires-2-clause-in_range
@@ -110,77 +107,3 @@ returns-clause-only g c told ended =
     (record { is = c.in_ok-write-2.ensures.written told; durable = c.in_ok-write-2.ensures.durable told; crash = c.write-2.ensures.crash })
     (record { is = is; durable = durable; crash = c.write-3.ensures.crash }))
     (c.write-3.ensures.written told) (c.write-3.ensures.durable told)
-
-pub returns-in_err-write-clause-within : goal.returns-in_err-write-clause-within
-returns-in_err-write-clause-within g c told most was fits =
-    let d = g.D.Disk in
-    let gated = c.args.self.now in
-    torn_within gated most gated.end 1 (d.reading c.args.disk.now) (d.reading c.write.new.disk) (omega (arith, fits, c.requires.committed.more)) was (c.write.ensures.partial told)
-
-pub returns-in_err-write-2-clause-within : goal.returns-in_err-write-2-clause-within
-returns-in_err-write-2-clause-within g c told most was fits =
-    let d = g.D.Disk in
-    let gated = c.args.self.now in
-    let rest = c.split_at.result.1.now in
-    torn_within gated most (gated.end + 1) (length rest) (d.reading c.write.new.disk) (d.reading c.write-2.new.disk) (rest_fits gated.end most c.args.text.now rest c.split_at.ensures.back fits c.requires.committed.more)
-    (torn_within gated most gated.end 1 (d.reading c.args.disk.now) (d.reading c.write.new.disk) (omega (arith, fits, c.requires.committed.more)) was (c.write.ensures.partial told))
-    (c.write-2.ensures.partial told)
-
-pub returns-clause-within : goal.returns-clause-within
-returns-clause-within g c told most was fits =
-    let d = g.D.Disk in
-    let gated = c.args.self.now in
-    let head = c.split_at.result.0.now in
-    let rest = c.split_at.result.1.now in
-    torn_within gated most gated.end (length head) (d.reading c.write-2.new.disk) (d.reading c.write-3.new.disk) (head_fits gated.end most c.args.text.now head c.split_at.ensures.front fits)
-    (torn_within gated most (gated.end + 1) (length rest) (d.reading c.write.new.disk) (d.reading c.write-2.new.disk) (rest_fits gated.end most c.args.text.now rest c.split_at.ensures.back fits c.requires.committed.more)
-    (torn_within gated most gated.end 1 (d.reading c.args.disk.now) (d.reading c.write.new.disk) (omega (arith, fits, c.requires.committed.more)) was (c.write.ensures.partial told))
-    (c.write-2.ensures.partial told))
-    (c.write-3.ensures.partial told)
-
-pub returns-in_err-write-clause-leaves_within : goal.returns-in_err-write-clause-leaves_within
-returns-in_err-write-clause-leaves_within g c told most ended fits =
-    let d = g.D.Disk in
-    let gated = c.args.self.now in
-    let start = c.args.disk.now in
-    torn_adds gated most d.moment d.images_since d.images start c.write.new.disk gated.end 1 (omega (arith, fits, c.requires.committed.more))
-    (ended_within gated most (d.reading start) (d.images start) ended (omega (arith, fits)))
-    c.write.ensures.leaves
-
-pub returns-in_err-write-2-clause-leaves_within : goal.returns-in_err-write-2-clause-leaves_within
-returns-in_err-write-2-clause-leaves_within g c told most ended fits =
-    let d = g.D.Disk in
-    let gated = c.args.self.now in
-    let rest = c.split_at.result.1.now in
-    let start = c.args.disk.now in
-    let one = c.write.new.disk in
-    let two = c.write-2.new.disk in
-    let first_fits : gated.end + 1 ≤ most = omega (arith, fits, c.requires.committed.more) in
-    let all : Leaves (d.images start) (IsWithin gated most) = ended_within gated most (d.reading start) (d.images start) ended (omega (arith, fits)) in
-    joined d.moment d.images_since start one two (IsWithin gated most)
-    (torn_adds gated most d.moment d.images_since d.images start one gated.end 1 first_fits all c.write.ensures.leaves)
-    (torn_adds gated most d.moment d.images_since d.images one two (gated.end + 1) (length rest) (rest_fits gated.end most c.args.text.now rest c.split_at.ensures.back fits c.requires.committed.more)
-    (torn_leaves gated most gated.end 1 (d.images start) (d.images one) first_fits all c.write.ensures.crash)
-    c.write-2.ensures.leaves)
-
-pub returns-clause-leaves_within : goal.returns-clause-leaves_within
-returns-clause-leaves_within g c told most ended fits =
-    let d = g.D.Disk in
-    let gated = c.args.self.now in
-    let head = c.split_at.result.0.now in
-    let rest = c.split_at.result.1.now in
-    let start = c.args.disk.now in
-    let one = c.write.new.disk in
-    let two = c.write-2.new.disk in
-    let three = c.write-3.new.disk in
-    let first_fits : gated.end + 1 ≤ most = omega (arith, fits, c.requires.committed.more) in
-    let second_fits : gated.end + 1 + length rest ≤ most = rest_fits gated.end most c.args.text.now rest c.split_at.ensures.back fits c.requires.committed.more in
-    let all : Leaves (d.images start) (IsWithin gated most) = ended_within gated most (d.reading start) (d.images start) ended (omega (arith, fits)) in
-    let all_one : Leaves (d.images one) (IsWithin gated most) = torn_leaves gated most gated.end 1 (d.images start) (d.images one) first_fits all c.write.ensures.crash in
-    joined d.moment d.images_since start two three (IsWithin gated most)
-    (joined d.moment d.images_since start one two (IsWithin gated most)
-    (torn_adds gated most d.moment d.images_since d.images start one gated.end 1 first_fits all c.write.ensures.leaves)
-    (torn_adds gated most d.moment d.images_since d.images one two (gated.end + 1) (length rest) second_fits all_one c.write-2.ensures.leaves))
-    (torn_adds gated most d.moment d.images_since d.images two three gated.end (length head) (head_fits gated.end most c.args.text.now head c.split_at.ensures.front fits)
-    (torn_leaves gated most (gated.end + 1) (length rest) (d.images one) (d.images two) second_fits all_one c.write-2.ensures.crash)
-    c.write-3.ensures.leaves)

@@ -1,14 +1,12 @@
 -- A sync, the commit byte taken off, and a cut.
-use Rattle.std.proofs.Common.{refl, sym, subst, arith}
+use Rattle.std.proofs.Common.{refl, sym, subst}
 use Rattle.std.proofs.lemmas.Result.{on_ok_weaker}
 use Rattle.disk_model.specs.Image.{Image}
-use Rattle.disk_model.proofs.MomentLaws.{joined}
-use Rattle.gated_file.specs.Files.{IsWithin, KeepsFront}
+use Rattle.gated_file.specs.Files.{KeepsFront}
 use Rattle.gated_file.specs.steps.Mending.{IsSynced}
-use Rattle.gated_file.proofs.Mending.{all_until, mend_leaves, mend_only, mend_reading, no_more, stays_new, stays_two, stays_within}
+use Rattle.gated_file.proofs.Mending.{all_until, mend_leaves, mend_only, mend_reading, stays_new, stays_two, stays_within}
 use Rattle.gated_file.proofs.Results.{on_ok_both}
 use Rattle.gated_file.proofs.RewriteLaws.{on_file_same}
-use Rattle.gated_file.proofs.Lengths.{cut_adds, cut_within, synced_within}
 use Rattle.gated_file.proofs.file.GatedFile.take_away.Goals as goal
 
 pub returns-in_err-sync-clause-stays : goal.returns-in_err-sync-clause-stays
@@ -99,55 +97,3 @@ returns-clause-only g c told =
     let same = c.sync.ensures.reading told in
     let synced : IsSynced gated (d.reading start) (d.images start) = subst (λ (r : Image). IsSynced gated r (d.images start)) (sym same) c.in_ok-sync.ensures.durable in
     on_ok_both c.cut_off.result (mend_only d.moment d.images_since d.images d.reading m.now_counts m.now_only gated first start two (c.requires.there told) (c.requires.in_range told) same c.sync.ensures.crash c.sync.ensures.time (c.uncommit.ensures.leaves told synced) (c.uncommit.ensures.stays told) (c.in_ok-uncommit.ensures.synced told synced) (c.in_ok-uncommit.ensures.rest told) c.cut_off.new.disk c.cut_off.ensures.crash) (c.cut_off.ensures.durable told) (c.cut_off.ensures.cut told)
-
-pub returns-in_err-sync-clause-within : goal.returns-in_err-sync-clause-within
-returns-in_err-sync-clause-within g c told most was = subst (IsWithin c.args.self.now most) (sym (c.sync.ensures.reading told)) was
-
-pub returns-in_err-uncommit-clause-within : goal.returns-in_err-uncommit-clause-within
-returns-in_err-uncommit-clause-within g c told most was = c.uncommit.ensures.within told most (subst (IsWithin c.args.self.now most) (sym (c.sync.ensures.reading told)) was)
-
-pub returns-clause-within : goal.returns-clause-within
-returns-clause-within g c told most was =
-    let d = g.D.Disk in
-    cut_within c.args.self.now most (d.reading c.uncommit.new.disk) (d.reading c.cut_off.new.disk) (omega (arith, was, c.requires.in_range told))
-    (c.uncommit.ensures.within told most (subst (IsWithin c.args.self.now most) (sym (c.sync.ensures.reading told)) was))
-    (c.cut_off.ensures.partial told)
-
-pub returns-in_err-sync-clause-leaves_within : goal.returns-in_err-sync-clause-leaves_within
-returns-in_err-sync-clause-leaves_within g c told most was =
-    let d = g.D.Disk in
-    let m = g.met.D.Disk in
-    no_more d.moment d.images_since d.images d.reading m.now_counts m.now_only c.args.self.now c.args.disk.now c.sync.new.self (IsWithin c.args.self.now most) c.sync.ensures.crash c.sync.ensures.time
-
-pub returns-in_err-uncommit-clause-leaves_within : goal.returns-in_err-uncommit-clause-leaves_within
-returns-in_err-uncommit-clause-leaves_within g c told most was =
-    let d = g.D.Disk in
-    let m = g.met.D.Disk in
-    let gated = c.args.self.now in
-    let first = c.args.disk.now in
-    let start = c.sync.new.self in
-    let same = c.sync.ensures.reading told in
-    let synced : IsSynced gated (d.reading start) (d.images start) = subst (λ (r : Image). IsSynced gated r (d.images start)) (sym same) c.in_ok-sync.ensures.durable in
-    joined d.moment d.images_since first start c.uncommit.new.disk (IsWithin gated most)
-    (no_more d.moment d.images_since d.images d.reading m.now_counts m.now_only gated first start (IsWithin gated most) c.sync.ensures.crash c.sync.ensures.time)
-    (c.uncommit.ensures.leaves_within told most synced (subst (IsWithin gated most) (sym same) was))
-
-pub returns-clause-leaves_within : goal.returns-clause-leaves_within
-returns-clause-leaves_within g c told most was =
-    let d = g.D.Disk in
-    let m = g.met.D.Disk in
-    let gated = c.args.self.now in
-    let first = c.args.disk.now in
-    let start = c.sync.new.self in
-    let two = c.uncommit.new.disk in
-    let new = c.cut_off.new.disk in
-    let same = c.sync.ensures.reading told in
-    let was_start : IsWithin gated most (d.reading start) = subst (IsWithin gated most) (sym same) was in
-    let synced : IsSynced gated (d.reading start) (d.images start) = subst (λ (r : Image). IsSynced gated r (d.images start)) (sym same) c.in_ok-sync.ensures.durable in
-    joined d.moment d.images_since first two new (IsWithin gated most)
-    (joined d.moment d.images_since first start two (IsWithin gated most)
-    (no_more d.moment d.images_since d.images d.reading m.now_counts m.now_only gated first start (IsWithin gated most) c.sync.ensures.crash c.sync.ensures.time)
-    (c.uncommit.ensures.leaves_within told most synced was_start))
-    (cut_adds gated most d.moment d.images_since d.images two new (omega (arith, was, c.requires.in_range told))
-    (synced_within gated most (d.reading two) (d.images two) (c.in_ok-uncommit.ensures.synced told synced) (c.uncommit.ensures.within told most was_start))
-    c.cut_off.ensures.leaves)

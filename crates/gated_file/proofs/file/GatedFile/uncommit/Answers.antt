@@ -1,13 +1,12 @@
-use Rattle.std.proofs.Common.{◌⊎◌, ℕ, List, refl, sym, subst, inl, inr, ⊎_elim, arith, length-drop}
-use Rattle.disk_model.specs.Crash.{Leaves, OnFile, Stepped, Torn}
+use Rattle.std.proofs.Common.{◌⊎◌, ℕ, List, refl, sym, subst, inl, inr, ⊎_elim}
+use Rattle.disk_model.specs.Crash.{OnFile, Stepped, Torn}
 use Rattle.disk_model.specs.Image.{Image}
 use Rattle.disk_model.proofs.MomentLaws.{joined, weakened, absorbed}
 use Rattle.capture.specs.Tails.{IsCommitted}
-use Rattle.gated_file.specs.Files.{HoldsBefore, IsWithin, KeepsFront, Rewrites, bytes_of}
+use Rattle.gated_file.specs.Files.{HoldsBefore, KeepsFront, Rewrites, bytes_of}
 use Rattle.gated_file.specs.steps.Mending.{IsSynced, rest_of}
 use Rattle.gated_file.proofs.Closing.{uncommitted}
 use Rattle.gated_file.proofs.RewriteLaws.{on_file_same, rewrites_weaker}
-use Rattle.gated_file.proofs.Lengths.{same_adds, synced_within, torn_adds}
 use Rattle.gated_file.proofs.file.GatedFile.uncommit.Goals as goal
 
 pub returns-in_err-is_committed-clause-stays : goal.returns-in_err-is_committed-clause-stays
@@ -42,47 +41,3 @@ returns-then-branch-clause-leaves g c told synced =
     (joined d.moment d.images_since start mid new Both
     (weakened d.moment d.images_since start mid first Both (λ i was. inl was) c.is_committed.ensures.leaves)
     (weakened d.moment d.images_since mid new Step Both gives (c.close.ensures.leaves told committed_mid synced_mid)))
-
-pub returns-in_err-is_committed-clause-within : goal.returns-in_err-is_committed-clause-within
-returns-in_err-is_committed-clause-within g c told most was = subst (IsWithin c.args.self.now most) (sym (c.is_committed.ensures.reading told)) was
-
-pub returns-then-branch-clause-within : goal.returns-then-branch-clause-within
-returns-then-branch-clause-within g c told most was =
-    let gated = c.args.self.now in
-    let start : Image = g.D.Disk.reading c.args.disk.now in
-    let committed : IsCommitted gated.commit (rest_of gated start) = (c.in_ok-is_committed.ensures.committed told).0 c.if-branch.true in
-    c.close.ensures.within told most (subst (IsWithin gated most) (sym (c.is_committed.ensures.reading told)) was) (omega (arith, was, committed.more, length-drop gated.end (bytes_of gated start)))
-
-pub returns-clause-within : goal.returns-clause-within
-returns-clause-within g c told most was = subst (IsWithin c.args.self.now most) (sym (c.is_committed.ensures.reading told)) was
-
-pub returns-in_err-is_committed-clause-leaves_within : goal.returns-in_err-is_committed-clause-leaves_within
-returns-in_err-is_committed-clause-leaves_within g c told most synced was =
-    let gated = c.args.self.now in
-    let d = g.D.Disk in
-    let start = c.args.disk.now in
-    same_adds gated most d.moment d.images_since d.images start c.is_committed.new.disk (synced_within gated most (d.reading start) (d.images start) synced was) c.is_committed.ensures.leaves
-
-pub returns-then-branch-clause-leaves_within : goal.returns-then-branch-clause-leaves_within
-returns-then-branch-clause-leaves_within g c told most synced was =
-    let gated = c.args.self.now in
-    let d = g.D.Disk in
-    let start = c.args.disk.now in
-    let mid = c.is_committed.new.disk in
-    let new = c.close.new.disk in
-    let all : Leaves (d.images start) (IsWithin gated most) = synced_within gated most (d.reading start) (d.images start) synced was in
-    let committed : IsCommitted gated.commit (rest_of gated (d.reading start)) = (c.in_ok-is_committed.ensures.committed told).0 c.if-branch.true in
-    let committed_mid : IsCommitted gated.commit (rest_of gated (d.reading mid)) = subst (λ (r : Image). IsCommitted gated.commit (rest_of gated r)) (sym (c.is_committed.ensures.reading told)) committed in
-    let synced_mid : IsSynced gated (d.reading mid) (d.images mid) = subst (λ (r : Image). IsSynced gated r (d.images mid)) (sym (c.is_committed.ensures.reading told)) (λ i left. synced i (c.is_committed.ensures.crash i left)) in
-    joined d.moment d.images_since start mid new (IsWithin gated most)
-    (same_adds gated most d.moment d.images_since d.images start mid all c.is_committed.ensures.leaves)
-    (torn_adds gated most d.moment d.images_since d.images mid new gated.end 1 (omega (arith, was, committed.more, length-drop gated.end (bytes_of gated (d.reading start))))
-    (λ i left. all i (c.is_committed.ensures.crash i left))
-    (c.close.ensures.leaves told committed_mid synced_mid))
-
-pub returns-clause-leaves_within : goal.returns-clause-leaves_within
-returns-clause-leaves_within g c told most synced was =
-    let gated = c.args.self.now in
-    let d = g.D.Disk in
-    let start = c.args.disk.now in
-    same_adds gated most d.moment d.images_since d.images start c.is_committed.new.disk (synced_within gated most (d.reading start) (d.images start) synced was) c.is_committed.ensures.leaves

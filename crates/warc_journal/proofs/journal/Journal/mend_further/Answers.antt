@@ -1,11 +1,9 @@
-use Rattle.std.proofs.Common.{[], subst, sym, true}
+use Rattle.std.proofs.Common.{[], subst}
 use Rattle.disk_model.specs.Crash.{Leaves}
 use Rattle.disk_model.specs.Moments.{AddsOnly}
-use Rattle.gated_file.specs.Files.{IsAdded, IsFinished, IsWithin, KeepsText}
+use Rattle.gated_file.specs.Files.{IsAdded, IsFinished, KeepsText}
 use Rattle.gated_file.specs.declared.file.GatedFile.{GatedFile}
-use Rattle.warc_text.specs.Records.{info_most}
-use Rattle.warc_journal.specs.Extents.{further_of}
-use Rattle.warc_journal.proofs.Preparing.{both_added, further_cleared, further_failed, further_prepared, further_small, no_file}
+use Rattle.warc_journal.proofs.Preparing.{further_cleared, further_failed, further_prepared, no_file}
 use Rattle.warc_journal.proofs.journal.Journal.mend_further.Goals as goal
 
 pub returns-in_err-mend-clause-prepared : goal.returns-in_err-mend-clause-prepared
@@ -14,14 +12,9 @@ returns-in_err-mend-clause-prepared g c told =
     let m = g.met.D.Disk in
     let old = c.args.self.now in
     let new = c.mend.new.disk in
-    let is = c.further_file.ensures in
-    let small = subst (λ (f : GatedFile). IsWithin f info_most (d.reading old.disk)) (sym is) (further_small d old true (c.requires.in_step told) (c.requires.there told)) in
     further_prepared d m.now_counts m.now_only old new (c.requires.in_step told) c.requires.unknown
-    (subst (λ (f : GatedFile). KeepsText f (d.reading old.disk) (d.reading new)) is (c.mend.ensures.stays told))
-    (subst (λ (f : GatedFile). IsWithin f info_most (d.reading new)) is (c.mend.ensures.within told info_most small))
-    (both_added d old.disk new (IsFinished (further_of old.extent true) (d.reading old.disk) (d.images old.disk)) (IsWithin (further_of old.extent true) info_most)
-    (subst (λ (f : GatedFile). AddsOnly d.moment d.images_since old.disk new (IsFinished f (d.reading old.disk) (d.images old.disk))) is (c.mend.ensures.leaves told))
-    (subst (λ (f : GatedFile). AddsOnly d.moment d.images_since old.disk new (IsWithin f info_most)) is (c.mend.ensures.leaves_within told info_most small)))
+    (subst (λ (f : GatedFile). KeepsText f (d.reading old.disk) (d.reading new)) c.further_file.ensures (c.mend.ensures.stays told))
+    (subst (λ (f : GatedFile). AddsOnly d.moment d.images_since old.disk new (IsFinished f (d.reading old.disk) (d.images old.disk))) c.further_file.ensures (c.mend.ensures.leaves told))
     old.extent.is_dirty old.extent.further
 
 pub returns-in_err-mend-clause-in_step : goal.returns-in_err-mend-clause-in_step
@@ -30,14 +23,9 @@ returns-in_err-mend-clause-in_step g c told =
     let m = g.met.D.Disk in
     let old = c.args.self.now in
     let new = c.mend.new.disk in
-    let is = c.further_file.ensures in
-    let small = subst (λ (f : GatedFile). IsWithin f info_most (d.reading old.disk)) (sym is) (further_small d old true (c.requires.in_step told) (c.requires.there told)) in
     further_failed d m.now_counts m.now_only old new (c.requires.in_step told) c.requires.unknown
-    (subst (λ (f : GatedFile). KeepsText f (d.reading old.disk) (d.reading new)) is (c.mend.ensures.stays told))
-    (subst (λ (f : GatedFile). IsWithin f info_most (d.reading new)) is (c.mend.ensures.within told info_most small))
-    (both_added d old.disk new (IsFinished (further_of old.extent true) (d.reading old.disk) (d.images old.disk)) (IsWithin (further_of old.extent true) info_most)
-    (subst (λ (f : GatedFile). AddsOnly d.moment d.images_since old.disk new (IsFinished f (d.reading old.disk) (d.images old.disk))) is (c.mend.ensures.leaves told))
-    (subst (λ (f : GatedFile). AddsOnly d.moment d.images_since old.disk new (IsWithin f info_most)) is (c.mend.ensures.leaves_within told info_most small)))
+    (subst (λ (f : GatedFile). KeepsText f (d.reading old.disk) (d.reading new)) c.further_file.ensures (c.mend.ensures.stays told))
+    (subst (λ (f : GatedFile). AddsOnly d.moment d.images_since old.disk new (IsFinished f (d.reading old.disk) (d.images old.disk))) c.further_file.ensures (c.mend.ensures.leaves told))
 
 pub returns-clause-prepared : goal.returns-clause-prepared
 returns-clause-prepared g c told =
@@ -45,14 +33,9 @@ returns-clause-prepared g c told =
     let m = g.met.D.Disk in
     let old = c.args.self.now in
     let new = c.mend.new.disk in
-    let is = c.further_file.ensures in
-    let small = subst (λ (f : GatedFile). IsWithin f info_most (d.reading old.disk)) (sym is) (further_small d old true (c.requires.in_step told) (c.requires.there told)) in
     further_prepared d m.now_counts m.now_only old new (c.requires.in_step told) c.requires.unknown
-    (subst (λ (f : GatedFile). KeepsText f (d.reading old.disk) (d.reading new)) is (c.mend.ensures.stays told))
-    (subst (λ (f : GatedFile). IsWithin f info_most (d.reading new)) is (c.mend.ensures.within told info_most small))
-    (both_added d old.disk new (IsFinished (further_of old.extent true) (d.reading old.disk) (d.images old.disk)) (IsWithin (further_of old.extent true) info_most)
-    (subst (λ (f : GatedFile). AddsOnly d.moment d.images_since old.disk new (IsFinished f (d.reading old.disk) (d.images old.disk))) is (c.mend.ensures.leaves told))
-    (subst (λ (f : GatedFile). AddsOnly d.moment d.images_since old.disk new (IsWithin f info_most)) is (c.mend.ensures.leaves_within told info_most small)))
+    (subst (λ (f : GatedFile). KeepsText f (d.reading old.disk) (d.reading new)) c.further_file.ensures (c.mend.ensures.stays told))
+    (subst (λ (f : GatedFile). AddsOnly d.moment d.images_since old.disk new (IsFinished f (d.reading old.disk) (d.images old.disk))) c.further_file.ensures (c.mend.ensures.leaves told))
     old.extent.is_dirty _
 
 pub returns-clause-in_step : goal.returns-clause-in_step
@@ -61,15 +44,10 @@ returns-clause-in_step g c told =
     let m = g.met.D.Disk in
     let old = c.args.self.now in
     let new = c.mend.new.disk in
-    let is = c.further_file.ensures in
-    let small = subst (λ (f : GatedFile). IsWithin f info_most (d.reading old.disk)) (sym is) (further_small d old true (c.requires.in_step told) (c.requires.there told)) in
     further_cleared d m.now_counts m.now_only old new (c.requires.in_step told) c.requires.unknown
-    (subst (λ (f : GatedFile). KeepsText f (d.reading old.disk) (d.reading new)) is (c.mend.ensures.stays told))
-    (subst (λ (f : GatedFile). IsWithin f info_most (d.reading new)) is (c.mend.ensures.within told info_most small))
-    (both_added d old.disk new (IsFinished (further_of old.extent true) (d.reading old.disk) (d.images old.disk)) (IsWithin (further_of old.extent true) info_most)
-    (subst (λ (f : GatedFile). AddsOnly d.moment d.images_since old.disk new (IsFinished f (d.reading old.disk) (d.images old.disk))) is (c.mend.ensures.leaves told))
-    (subst (λ (f : GatedFile). AddsOnly d.moment d.images_since old.disk new (IsWithin f info_most)) is (c.mend.ensures.leaves_within told info_most small)))
-    (subst (λ (f : GatedFile). Leaves (d.images new) (IsAdded f (d.reading old.disk) (d.images old.disk) [])) is (c.in_ok-mend.ensures.only told))
+    (subst (λ (f : GatedFile). KeepsText f (d.reading old.disk) (d.reading new)) c.further_file.ensures (c.mend.ensures.stays told))
+    (subst (λ (f : GatedFile). AddsOnly d.moment d.images_since old.disk new (IsFinished f (d.reading old.disk) (d.images old.disk))) c.further_file.ensures (c.mend.ensures.leaves told))
+    (subst (λ (f : GatedFile). Leaves (d.images new) (IsAdded f (d.reading old.disk) (d.images old.disk) [])) c.further_file.ensures (c.in_ok-mend.ensures.only told))
 
 pub returns-in_err-mend-clause-no_file : goal.returns-in_err-mend-clause-no_file
 returns-in_err-mend-clause-no_file g c told =
