@@ -13,7 +13,8 @@ use capture::Memory;
 use link_queue::ROOM;
 use proxy_run::CREW;
 use real_outside::{Made, make};
-use tcp_links::{LIMITS, MOST_WRITERS};
+use system_network::MOST_WRITERS;
+use tcp_links::LIMITS;
 
 /// Each member of the crew may write a line on standard error at once, and one who accepts beside them.
 const _: () = prove!(CREW < MOST_WRITERS);

@@ -10,7 +10,8 @@ use outside::{DialError, Dialer, EchoDialer};
 use std::alloc::Global;
 use std::io;
 use std::io::Print;
-use tcp_links::{Network, TcpDialer, is_memory};
+use system_network::Network;
+use tcp_links::{TcpDialer, is_memory};
 
 /// Makes connections to origins, with a count of faults.
 #[derive(Drop)]

@@ -6,7 +6,7 @@ use folder_disk::counted;
 use outside::Failed;
 use std::fmt::Display;
 use std::io;
-use tcp_links::Causes;
+use system_network::Causes;
 
 /// Passes an answer of the system on. The cause of a failure is told, and the failure is counted.
 pub(crate) fn told<T, C: Causes, D: Display + Drop>(

@@ -8,7 +8,8 @@ use crate::standard_streams::StandardStreams;
 use outside::{Accepted, Gate};
 use std::io::Print;
 use std::net::SocketAddr;
-use tcp_links::{EndingInput, Network, TcpGate, is_memory};
+use system_network::{EndingInput, Network};
+use tcp_links::{TcpGate, is_memory};
 
 /// Gives connections of the system. It keeps nothing of those that have ended.
 #[derive(Drop)]

@@ -8,7 +8,8 @@ use crate::standard_streams::StandardStreams;
 use folder_disk::counted;
 use outside::{EchoLink, Failed, Link};
 use std::io::Print;
-use tcp_links::{EndingInput, Network, TcpLink, print_when_taken};
+use system_network::{EndingInput, Network, print_when_taken};
+use tcp_links::TcpLink;
 
 /// One end of a connection, with its count of faults. It doesn't tell what it gives and takes.
 #[derive(Drop)]

@@ -19,7 +19,8 @@ use folder_model::Lock;
 use std::io::Print;
 use std::net::SocketAddr;
 use std::rt::{Clock, Env};
-use tcp_links::{LIMITS, Network, Places, TcpDialer, TcpGate, where_to_listen};
+use system_network::Network;
+use tcp_links::{LIMITS, Places, TcpDialer, TcpGate, where_to_listen};
 
 /// The objects of one run.
 #[derive(Drop)]

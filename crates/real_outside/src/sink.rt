@@ -8,7 +8,7 @@ use folder_disk::counted;
 use outside::{Failed, Sink};
 use std::io;
 use std::io::Print;
-use tcp_links::{Causes, write_some};
+use system_network::{Causes, write_some};
 
 /// A standard stream to print on, with its count of faults. It doesn't tell what was written.
 #[derive(Drop)]

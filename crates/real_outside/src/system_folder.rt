@@ -45,7 +45,7 @@ impl FileSystem for HostRuntime {
 
 impl Causes for SystemFolders {
     fn tell<D: Display + Drop>(&mut self, what: D, call: &str, error: &io::Error) {
-        tcp_links::Causes::tell(&mut self.system, what, call, error);
+        system_network::Causes::tell(&mut self.system, what, call, error);
     }
 }
 

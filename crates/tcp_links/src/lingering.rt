@@ -1,8 +1,7 @@
 //! The close of a connection whose peer may still send.
-use crate::network::Socket;
-use crate::streams::read_some;
 use std::io;
 use std::time::Duration;
+use system_network::{Socket, read_some};
 
 /// How much is read at once of what nobody asked for.
 const PIECE: usize = 8_192;

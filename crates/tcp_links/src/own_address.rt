@@ -1,6 +1,6 @@
 //! Whether an address leads back to the listener of this program.
-use crate::network::Network;
 use std::net::{IpAddr, Ipv4Addr, Ipv6Addr, SocketAddr};
+use system_network::Network;
 
 /// Whether a connection to an address would come to the listener at its own address. One that listens at the
 /// unspecified address listens at all that this machine has: those of IPv4, or all.

@@ -7,7 +7,8 @@ use std::io;
 use std::io::{Error, ErrorKind, Print, Read, Write};
 use std::net::{IpAddr, SocketAddr};
 use std::time::Duration;
-use tcp_links::{Causes, Limits, Network, Socket};
+use system_network::{Causes, Network, Socket};
+use tcp_links::Limits;
 
 /// Limits of which each has a length of its own.
 pub(crate) const LIMITS: Limits = Limits {

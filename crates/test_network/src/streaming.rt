@@ -5,7 +5,7 @@ use crate::recorded_network::{Peer, QUIET, RecordedNetwork, RecordedSocket};
 use call_log::{Written, answered, joined, then};
 use std::io::ErrorKind;
 use std::process::Abort;
-use tcp_links::{EndingInput, print_when_taken, read_some, write_some};
+use system_network::{EndingInput, print_when_taken, read_some, write_some};
 
 /// What two reads of a standard input ask of a network, and what they answer.
 fn reads(stream: RecordedSocket) -> Written {

@@ -7,7 +7,7 @@ use call_log::{Written, written};
 use folder_model::Lock;
 use outside::Dialer;
 use real_outside::{Ends, Made, RealClock, RealDialer, RealGate, make};
-use tcp_links::Network;
+use system_network::Network;
 
 /// A server of 16 members at a port of the loopback.
 fn made_at(rt: &HostRuntime, port: u16) -> Option<Made<HostRuntime>> {

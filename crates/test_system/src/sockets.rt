@@ -5,7 +5,7 @@ use std::io;
 use std::io::Read;
 use std::net::{IpAddr, Ipv4Addr, SocketAddr, TcpListener};
 use std::time::Duration;
-use tcp_links::{Network, Socket, SystemSocket, put_first};
+use system_network::{Network, Socket, SystemSocket, put_first};
 
 /// The loopback's address at a port.
 fn at(port: u16) -> SocketAddr {

@@ -1,7 +1,6 @@
 //! Connections to hosts by TCP.
 use crate::brackets::without_brackets;
 use crate::limits::Limits;
-use crate::network::{MOST_ADDRESSES, Network};
 use crate::own_address::leads_back;
 use crate::places::Places;
 use crate::tcp::link::TcpLink;
@@ -10,6 +9,11 @@ use std::fmt::{Display, Formatter};
 use std::io::ErrorKind;
 use std::net::{Ipv4Addr, SocketAddr};
 use std::{fmt, io};
+use system_network::Network;
+
+/// The most addresses of one host that are tried. With more, a connect's part of the limit would be too short for
+/// the second try of a handshake, which comes after a second (RFC 6298).
+const MOST_ADDRESSES: usize = 8;
 
 /// Connects to origins.
 #[derive(Drop)]

@@ -2,12 +2,12 @@
 use crate::accept_faults::{AcceptFault, fault_of};
 use crate::limits::Limits;
 use crate::listening::{Address, LISTEN};
-use crate::network::Network;
 use crate::places::Places;
 use crate::tcp::link::TcpLink;
 use std::io;
 use std::io::ErrorKind;
 use std::net::SocketAddr;
+use system_network::Network;
 
 /// Listens at an address, from when it is bound or else from the first accept on. Without one it gives no connection.
 #[derive(Drop)]

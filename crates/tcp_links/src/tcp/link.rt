@@ -4,12 +4,11 @@ ghost use Rattle.std.specs.Io.{ReadsAtMost};
 
 use crate::limits::Limits;
 use crate::lingering::{linger, millis_since};
-use crate::network::Socket;
 use crate::places::Place;
-use crate::streams::{read_some, write_some};
 use std::io;
 use std::io::ErrorKind;
 use std::time::Duration;
+use system_network::{Socket, read_some, write_some};
 
 /// What a read waits for.
 #[derive(Clone, Copy, PartialEq, Eq)]

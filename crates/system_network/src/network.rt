@@ -7,10 +7,6 @@ use std::io::{Read, Write};
 use std::net::{IpAddr, SocketAddr};
 use std::time::Duration;
 
-/// The most addresses of one host that are tried. With more, a connect's part of the limit would be too short for
-/// the second try of a handshake, which comes after a second (RFC 6298).
-pub const MOST_ADDRESSES: usize = 8;
-
 /// One end of a TCP connection (RFC 9293), which is closed where it is dropped. A read of 0 bytes is the end of what
 /// the peer sends. A limit of 0 milliseconds is refused.
 pub trait Socket: Read + Write + Causes {

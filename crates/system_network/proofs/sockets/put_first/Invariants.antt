@@ -1,6 +1,6 @@
 -- As many addresses are found as were put into their places.
 use Rattle.std.proofs.Common.{◌≤◌, length}
-use Rattle.tcp_links.proofs.system_network.put_first.Given as goal
+use Rattle.system_network.proofs.sockets.put_first.Given as goal
 
 abbrev pub invariant-loop-address : goal.invariant-loop-address
 invariant-loop-address g l =
