@@ -1,7 +1,9 @@
 //! How the cause of each fault is told.
-use crate::recorded_folders::{NEVER, Plan, TWO_VOLUMES};
-use crate::rows::{CREATE, CUT_0, FILES, LEN_0, READ_0, Row, SYNC_0, WRITE_0, check_rows};
+use crate::checked::check_rows;
 use folder_model::Lock;
+use recorded_folders::{
+    CREATE, CUT_0, FILES, LEN_0, NEVER, Plan, READ_0, Row, SYNC_0, TWO_VOLUMES, WRITE_0,
+};
 use std::io::ErrorKind;
 
 /// A folder of two volumes, of whose calls none is written down, and the causes of faults are.

@@ -14,7 +14,3 @@ mod missing;
 mod open_files;
 #[cfg(test)]
 mod opening;
-#[cfg(test)]
-mod recorded_folders;
-#[cfg(test)]
-mod rows;

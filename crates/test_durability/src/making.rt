@@ -1,13 +1,12 @@
 //! In which order a file is made, and what a call that fails leaves.
-use crate::checked::check;
-use crate::recorded_folders::{NEVER, NO_VOLUME, Plan, TWO_VOLUMES};
-use crate::rows::{
-    CREATE, FILES, NO_FOLDER, NOT_FOUND, ONE_WRITE, REOPENED, Row, SYNC_0, WRITE_0, check_rows,
-    played, whole,
-};
+use crate::checked::{check, check_rows};
 use disk_model::Kind::Cdxj;
 use disk_steps::Step;
 use folder_model::Lock;
+use recorded_folders::{
+    CREATE, FILES, NEVER, NO_FOLDER, NO_VOLUME, NOT_FOUND, ONE_WRITE, Plan, REOPENED, Row, SYNC_0,
+    TWO_VOLUMES, WRITE_0, played, whole,
+};
 use std::alloc::Global;
 use std::io::ErrorKind;
 use std::process::Abort;

@@ -1,9 +1,9 @@
 //! What becomes of a number that has no checkpoint.
-use crate::recorded_folders::{NEVER, NO_VOLUME, Plan};
-use crate::rows::{FILES, Row, check_rows};
+use crate::checked::check_rows;
 use disk_model::Kind::Cdxj;
 use disk_steps::Step;
 use folder_model::Lock;
+use recorded_folders::{FILES, NEVER, NO_VOLUME, Plan, Row};
 use std::io::ErrorKind;
 
 /// The lengths of the first two checkpoints.

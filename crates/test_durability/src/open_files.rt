@@ -1,12 +1,12 @@
 //! What is asked of open files, and how others are noticed.
-use crate::recorded_folders::{NEVER, Plan, TWO_VOLUMES};
-use crate::rows::{
-    CREATE, CUT_0, FILES, LEN_0, MOVES_AT_4, ONE_WRITE, READ, READ_0, REOPENED, Row, SYNC_0,
-    SYNC_2, WRITE_0, WRITE_2, check_rows,
-};
+use crate::checked::check_rows;
 use disk_model::Kind::Warc;
 use disk_steps::Step;
 use folder_model::Lock;
+use recorded_folders::{
+    CREATE, CUT_0, FILES, LEN_0, MOVES_AT_4, NEVER, ONE_WRITE, Plan, READ, READ_0, REOPENED, Row,
+    SYNC_0, SYNC_2, TWO_VOLUMES, WRITE_0, WRITE_2,
+};
 use std::io::ErrorKind;
 
 const READ_1: Step = Step::Read(Warc, 1, 1, b"\0\0");

@@ -1,10 +1,10 @@
 //! In which order the folder is opened.
-use crate::recorded_folders::{NEVER, NO_VOLUME, Plan, TWO_VOLUMES};
-use crate::rows::{
-    CREATE, CUT_0, FILES, MOVES_AT_4, NO_FOLDER, NOT_FOUND, READ, READ_0, Row, SYNC_0, SYNC_2,
-    WRITE_0, WRITE_2, check_rows,
-};
+use crate::checked::check_rows;
 use folder_model::Lock;
+use recorded_folders::{
+    CREATE, CUT_0, FILES, MOVES_AT_4, NEVER, NO_FOLDER, NO_VOLUME, NOT_FOUND, Plan, READ, READ_0,
+    Row, SYNC_0, SYNC_2, TWO_VOLUMES, WRITE_0, WRITE_2,
+};
 use std::io::ErrorKind;
 
 /// What opens two volumes for who reads, and counts them.

@@ -1,6 +1,5 @@
 //! Rows of steps, and what is called for them.
-use crate::checked::check;
-use crate::recorded_folders::{Plan, RecordedFolders, Recorder, TWO_VOLUMES};
+use crate::folders::{Plan, RecordedFolders, Recorder, TWO_VOLUMES};
 use call_log::{Written, joined, written};
 use disk_model::Disk;
 use disk_model::Kind::Warc;
@@ -9,36 +8,40 @@ use folder_model::Lock;
 use real_outside::RealDisk;
 use std::alloc::{AllocError, Global};
 use std::io::ErrorKind;
-use std::process::Abort;
 
-pub(crate) const FILES: Step = Step::Files(Warc);
+/// How many volumes there are.
+pub const FILES: Step = Step::Files(Warc);
 
-pub(crate) const CREATE: Step = Step::Create(Warc);
+/// A next volume.
+pub const CREATE: Step = Step::Create(Warc);
 
 /// The length of the file of this number.
-pub(crate) const LEN_0: Step = Step::Len(Warc, 0);
+pub const LEN_0: Step = Step::Len(Warc, 0);
 
 /// Two bytes from the second on.
-pub(crate) const READ_0: Step = Step::Read(Warc, 0, 1, b"\0\0");
+pub const READ_0: Step = Step::Read(Warc, 0, 1, b"\0\0");
 
 /// Three bytes from the first on.
-pub(crate) const WRITE_0: Step = Step::Write(Warc, 0, 0, b"abc");
+pub const WRITE_0: Step = Step::Write(Warc, 0, 0, b"abc");
 
-pub(crate) const WRITE_2: Step = Step::Write(Warc, 2, 0, b"abc");
+/// The same, to the file of this number.
+pub const WRITE_2: Step = Step::Write(Warc, 2, 0, b"abc");
 
 /// To one byte.
-pub(crate) const CUT_0: Step = Step::Cut(Warc, 0, 1);
+pub const CUT_0: Step = Step::Cut(Warc, 0, 1);
 
-pub(crate) const SYNC_0: Step = Step::Sync(Warc, 0);
+/// The file of this number.
+pub const SYNC_0: Step = Step::Sync(Warc, 0);
 
-pub(crate) const SYNC_2: Step = Step::Sync(Warc, 2);
+/// Likewise.
+pub const SYNC_2: Step = Step::Sync(Warc, 2);
 
 /// What the folder holds, which of its calls fail and how and which are written down; how the folder is held; what is
 /// done; and in parts the calls that are made then, and behind them how many steps failed.
-pub(crate) type Row = (Plan, Lock, &'static [Step], &'static [&'static str]);
+pub type Row = (Plan, Lock, &'static [Step], &'static [&'static str]);
 
 /// What is called where the folder is held so, and how many steps failed.
-pub(crate) fn played(alloc: Global, plan: Plan, lock: Lock, steps: &[Step]) -> Written {
+pub fn played(alloc: Global, plan: Plan, lock: Lock, steps: &[Step]) -> Written {
     match recorders(alloc, plan) {
         Ok((recorder, log)) => {
             let disk = RealDisk::new(RecordedFolders::new(recorder), alloc, lock);
@@ -65,15 +68,8 @@ fn faults_behind(disk: RealDisk<RecordedFolders>, steps: &[Step]) -> u64 {
     disk.faults()
 }
 
-/// Asserts that rows are called so.
-pub(crate) fn check_rows<R: Abort>(rt: &R, alloc: Global, rows: &[Row]) {
-    for (plan, lock, steps, want) in rows {
-        check(rt, played(alloc, *plan, *lock, steps), whole(want).as_str());
-    }
-}
-
 /// A text in its parts.
-pub(crate) fn whole(parts: &[&str]) -> Written {
+pub fn whole(parts: &[&str]) -> Written {
     let mut whole = Written::new();
     for part in parts {
         whole = joined(whole, part);
@@ -82,23 +78,24 @@ pub(crate) fn whole(parts: &[&str]) -> Written {
 }
 
 /// What finds no folder: calls 0 to 2.
-pub(crate) const NOT_FOUND: &str = "lock archive;is a link archive;may write .;";
+pub const NOT_FOUND: &str = "lock archive;is a link archive;may write .;";
 
 /// What opens a file again that a call that failed closed.
-pub(crate) const REOPENED: &str =
+pub const REOPENED: &str =
     "look for folder;open to write vol-000000.warc;length of vol-000000.warc;";
 
-pub(crate) const ONE_WRITE: &str = "write 3 at 0 of vol-000000.warc;";
+/// What writes three bytes to the first volume.
+pub const ONE_WRITE: &str = "write 3 at 0 of vol-000000.warc;";
 
 /// What reads the first of two volumes.
-pub(crate) const READ: &str =
+pub const READ: &str =
     "look for folder;open to read vol-000000.warc;length of vol-000000.warc;read 2 at 1 of vol-000000.warc;";
 
 /// What has no folder at first.
-pub(crate) const NO_FOLDER: (usize, ErrorKind) = (0, ErrorKind::NotFound);
+pub const NO_FOLDER: (usize, ErrorKind) = (0, ErrorKind::NotFound);
 
 /// Two volumes whose paths lead to others from call 4 on.
-pub(crate) const MOVES_AT_4: Plan = Plan {
+pub const MOVES_AT_4: Plan = Plan {
     moved_from: 4,
     ..TWO_VOLUMES
 };

@@ -15,32 +15,32 @@ use std::rc::Rc;
 
 /// What a folder of records holds, and which of its calls are written down and which fail.
 #[derive(Clone, Copy)]
-pub(crate) struct Plan {
+pub struct Plan {
     /// The names in the folder.
-    pub(crate) names: [&'static str; 3],
+    pub names: [&'static str; 3],
     /// The length of each file that is there.
-    pub(crate) len: u64,
+    pub len: u64,
     /// The length that another process gives a file as soon as it is made.
-    pub(crate) theirs: u64,
+    pub theirs: u64,
     /// The most bytes that one read or write takes.
-    pub(crate) most: usize,
+    pub most: usize,
     /// Which calls fail, counted from 0, and how.
-    pub(crate) fails: [(usize, ErrorKind); 2],
+    pub fails: [(usize, ErrorKind); 2],
     /// From which call on paths lead to others.
-    pub(crate) moved_from: usize,
+    pub moved_from: usize,
     /// Whether the folder's path is a link.
-    pub(crate) linked: bool,
+    pub linked: bool,
     /// The first call that is written down.
-    pub(crate) from: usize,
+    pub from: usize,
     /// Whether the causes of faults are written down too.
-    pub(crate) tells: bool,
+    pub tells: bool,
 }
 
 /// No call that fails.
-pub(crate) const NEVER: (usize, ErrorKind) = (usize::MAX, ErrorKind::Other);
+pub const NEVER: (usize, ErrorKind) = (usize::MAX, ErrorKind::Other);
 
 /// A folder without files.
-pub(crate) const NO_VOLUME: Plan = Plan {
+pub const NO_VOLUME: Plan = Plan {
     names: ["", "", ""],
     len: 0,
     theirs: 0,
@@ -53,7 +53,7 @@ pub(crate) const NO_VOLUME: Plan = Plan {
 };
 
 /// A folder of two volumes of three bytes.
-pub(crate) const TWO_VOLUMES: Plan = Plan {
+pub const TWO_VOLUMES: Plan = Plan {
     names: ["vol-000001.warc", "notes", "vol-000000.warc"],
     len: 3,
     ..NO_VOLUME
