@@ -9,8 +9,4 @@ mod checked;
 #[cfg(test)]
 mod making;
 #[cfg(test)]
-mod missing;
-#[cfg(test)]
 mod open_files;
-#[cfg(test)]
-mod opening;
