@@ -5,7 +5,7 @@ ghost use Rattle.capture.specs.Faults.{CountsFaults};
 ghost use Rattle.disk_model.specs.Image.{no_files};
 
 use capture::Failed;
-use case_disk::{Change, reach};
+use case_steps::{Change, reach};
 use disk_model::{Disk, Kind, MemoryDisk};
 
 /// A disk that passes each call on to a disk in memory, and changes what a read gives. It asks the inner disk whether the file and

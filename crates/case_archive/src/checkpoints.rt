@@ -1,7 +1,7 @@
 //! A step that lets the file of a volume's checkpoint hold any text.
 use capture::Failed;
-use case_disk::reach;
 use case_language::TextWords;
+use case_steps::reach;
 use disk_model::{Disk, Kind, MemoryDisk};
 
 /// The number of a checkpoint's file, and behind a space its text.

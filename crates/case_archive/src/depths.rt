@@ -5,7 +5,7 @@ use crate::held::Held;
 use crate::opening::reopened;
 use archive_shelf::Depth;
 use capture::Memory;
-use case_disk::{Outcome, after};
+use case_steps::{Outcome, after};
 use case_stores::Opening;
 use disk_model::MemoryDisk;
 use std::alloc::Global;

@@ -1,13 +1,9 @@
 //! Calls of a disk in memory, one by one, and what its files hold behind them.
 use crate::call::Call;
-use crate::deed::Deed;
-use crate::disk::{DiskSetting, behind_files, set};
-use crate::ends::{after, kept};
-use crate::outcome::Outcome;
-use crate::reaching::Absent;
 use crate::told::Told;
 use crate::{checkpoints, looked, verdicts};
 use capture::Memory;
+use case_steps::{Absent, Deed, Outcome, after, kept};
 use disk_model::{Kind, MemoryDisk};
 use std::alloc::Global;
 use std::thread::Threads;
@@ -17,11 +13,10 @@ use std::thread::Threads;
 pub fn outcome_of_calls<R: Threads + Sync>(
     rt: &R,
     alloc: Global,
-    setting: DiskSetting,
+    disk: MemoryDisk,
     steps: &[Deed],
     choice: u32,
 ) -> Result<Option<Outcome>, Memory> {
-    let disk = standing(alloc, setting)?;
     let mut outcome = Outcome::new(alloc);
     let caller = Caller { rt, choice };
     let behind = caller.behind(alloc, &mut outcome, disk, steps);
@@ -95,18 +90,6 @@ fn put_left(
 fn put_texts(alloc: Global, outcome: &mut Outcome, mut disk: MemoryDisk) -> Result<bool, Memory> {
     let done = outcome.put_texts(alloc, &mut disk);
     after(done, true)
-}
-
-/// The disk on which the volumes and checkpoints stand, durably. Its calls are numbered from 0 behind that.
-fn standing(alloc: Global, setting: DiskSetting) -> Result<MemoryDisk, Memory> {
-    let mut disk = MemoryDisk::new(alloc, behind_files(alloc, setting)?);
-    for text in setting.volumes {
-        put(&mut disk, Kind::Warc, text.as_slice());
-    }
-    for text in setting.checkpoints {
-        put(&mut disk, Kind::Cdxj, text.as_slice());
-    }
-    Ok(set(disk, setting))
 }
 
 /// The disk behind a call, of which it is put what it answers.

@@ -5,9 +5,9 @@ ghost use Rattle.checkpoint.specs.Checkpoints.{AreLinesFor};
 ghost use Rattle.disk_model.specs.Device.{reading_of};
 ghost use Rattle.disk_model.specs.Image.{file_count};
 
-use crate::reaching::{Absent, look};
 use crate::told::Told;
 use capture::{Failed, Memory};
+use case_steps::{Absent, look};
 use cdxj_line::{Line, put_line};
 use checkpoint::{CheckpointFault, clear_unsealed, read_for, write_for};
 use disk_model::{Disk, Kind, MemoryDisk};

@@ -5,9 +5,9 @@ ghost use Rattle.warc_journal.specs.Journals.{IsInStep, disk_of};
 ghost use Rattle.volume_scan.specs.Unread.{file_at};
 
 use crate::opening::{group_told, put_fault, put_text};
-use crate::outcome::Outcome;
 use capture::Memory;
 use case_language::TextWords;
+use case_steps::Outcome;
 use disk_model::Disk;
 use std::alloc::Global;
 use uuid::Uuid;

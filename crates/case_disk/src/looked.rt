@@ -1,8 +1,8 @@
 //! Calls of a disk in memory. Of each it is asked first whether the file and the range are there, which the disk doesn't count, so
 //! that it counts what a case does and nothing else.
-use crate::reaching::{Absent, look};
 use crate::told::Told;
 use capture::{Failed, Memory};
+use case_steps::{Absent, look};
 use disk_model::{Disk, Kind, MemoryDisk};
 use std::alloc::Global;
 

@@ -6,10 +6,9 @@ ghost use Rattle.warc_journal.specs.Journals.{IsInStep};
 ghost use Rattle.volume_scan.specs.Scannings.{IsInPlace, captures_of, position_of};
 ghost use Rattle.volume_scan.specs.declared.position.Stage.TheVariants.{Done};
 
-use crate::ends::{after, kept};
 use crate::group::put_group;
-use crate::outcome::Outcome;
 use capture::Memory;
+use case_steps::{Outcome, Step, Work, after, kept};
 use disk_model::{Disk, MemoryDisk};
 use std::alloc::Global;
 use volume_scan::{Found, ScanFault, Scanning};
@@ -17,27 +16,6 @@ use warc_journal::{Journal, Place};
 
 /// How many captures are read at most.
 const MOST: u32 = 1_000_000;
-
-/// A step of the journal of the volumes that were opened.
-#[derive(Drop)]
-pub struct Step {
-    pub work: Work,
-    /// Whether it is done only where the step before it was refused.
-    pub again: bool,
-}
-
-/// What a step does.
-#[derive(Drop)]
-pub enum Work {
-    /// A group is added.
-    Append(Vec<u8>),
-    /// A volume is begun.
-    Roll(Vec<u8>),
-    /// What stands behind the texts is taken away.
-    Repair,
-    /// A group is read by its place, which is told.
-    Group(Vec<u8>),
-}
 
 /// What the steps say, and what an opening finds behind them and a stop by this choice; or what an opening finds where there
 /// are no steps. `None` where the disk could not be stopped.

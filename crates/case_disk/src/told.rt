@@ -1,7 +1,6 @@
 //! What a step of a disk tells.
-use crate::outcome::Outcome;
-use crate::reaching::Absent;
 use capture::{Memory, put_number};
+use case_steps::{Absent, Outcome};
 use std::alloc::Global;
 
 /// What a call of a disk answers, or why it wasn't made.

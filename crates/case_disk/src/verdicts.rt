@@ -1,9 +1,9 @@
 //! The check of a volume's bytes, as a step of a case.
 use crate::call::Due;
 use crate::group::namespace_in;
-use crate::reaching::look;
 use crate::told::Told;
 use capture::Memory;
+use case_steps::look;
 use disk_model::{Kind, MemoryDisk};
 use fixity::{FixityFault, Verdict, check_volume};
 use std::alloc::Global;

@@ -1,7 +1,7 @@
 //! What events reply, as texts.
 use archive_shelf::RollFault;
 use capture::Memory;
-use case_disk::Outcome;
+use case_steps::Outcome;
 use case_stores::{
     bring_fault_bytes, brought_text, counts_text, number_text, numbers_of, receipt_text,
     reopen_fault_text, store_fault_text,

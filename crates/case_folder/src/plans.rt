@@ -1,8 +1,8 @@
 //! How calls of the file system go, and who else comes: as the case is set, and by steps, which tell nothing.
 use crate::quiet::Quiet;
 use capture::Memory;
-use case_disk::FolderSetting;
 use case_language::{TextWords, number_in};
+use case_steps::FolderSetting;
 use memory_folder::{Plan, Visit};
 use std::alloc::Global;
 

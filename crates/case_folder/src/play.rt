@@ -5,7 +5,7 @@ use crate::plans::{failing_in_part, fused, moving, plan_of, unchanged, visited};
 use crate::quiet::Quiet;
 use capture::Memory;
 use case_archive::{Held, do_step};
-use case_disk::{Deed, FolderSetting, Outcome, Player, after, outcome_of_steps};
+use case_steps::{Deed, FolderSetting, Outcome, Player, after, outcome_of_steps};
 use folder_disk::{FolderDisk, Unopened};
 use memory_folder::MemoryFolders;
 use std::alloc::Global;

@@ -1,6 +1,6 @@
 //! What was sent over links, as lines of a case.
 use capture::Memory;
-use case_disk::Outcome;
+use case_steps::Outcome;
 use case_texts::{put_next, put_next_number};
 use outside::Transcript;
 use std::alloc::Global;

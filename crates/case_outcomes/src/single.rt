@@ -2,10 +2,10 @@
 use crate::objects::{client_of, dialer_of};
 use crate::sent::put_sent;
 use capture::{Failed, Memory};
-use case_disk::{Change, Outcome, after, disk_of, kept, outcome_of_calls};
 use case_exchanges::{fetched, received_requests};
 use case_folder::Origins;
 use case_setting::{Played, Setting};
+use case_steps::{Change, Outcome, after, disk_of, kept};
 use case_texts::Call;
 use outside::{Link, MemoryClock, Transcript};
 use std::alloc::Global;
@@ -30,7 +30,7 @@ pub fn outcome_of_one<R: Threads + Sync>(
         Played::Opening(skip) => opened(alloc, setting, stop, *skip),
         Played::Files => worked(alloc, setting, stop),
         Played::Folder => stored_in_folder(alloc, setting, stop),
-        Played::Disk => outcome_of_calls(rt, alloc, setting.disk(), setting.deeds.as_slice(), stop),
+        Played::Disk => called(rt, alloc, setting, stop),
     }
 }
 
@@ -74,6 +74,19 @@ fn stored_altered(
         Ok(disk) => {
             case_archive::altered_outcome_of(alloc, disk, change, setting.deeds.as_slice())
         }
+        Err(Failed) => Ok(None),
+    }
+}
+
+/// What calls of the case's disk tell.
+fn called<R: Threads + Sync>(
+    rt: &R,
+    alloc: Global,
+    setting: &Setting,
+    stop: u32,
+) -> Result<Option<Outcome>, Memory> {
+    match disk_of(alloc, setting.disk())? {
+        Ok(disk) => case_disk::outcome_of_calls(rt, alloc, disk, setting.deeds.as_slice(), stop),
         Err(Failed) => Ok(None),
     }
 }

@@ -1,6 +1,6 @@
 //! What one play of a case is given.
-use case_disk::{Change, Deed, DiskSetting, FolderSetting, Step, Work};
 use case_language::{Line, Names, decode, number_of, numbers_of};
+use case_steps::{Change, Deed, DiskSetting, FolderSetting, Step, Work};
 use case_texts::Call;
 use disk_model::MemoryDisk;
 use std::alloc::{AllocError, Global};

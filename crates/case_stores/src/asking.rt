@@ -10,8 +10,8 @@ use crate::words;
 use archive_core::Archive;
 use capture::Memory;
 use case_captures::{exchanged_in, prepared_of};
-use case_disk::Deed;
 use case_language::number_in;
+use case_steps::Deed;
 use disk_model::Disk;
 use std::alloc::Global;
 

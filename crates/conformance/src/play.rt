@@ -1,10 +1,10 @@
 //! Plays the cases of a file.
 use crate::runs::outcome_of_runs;
 use capture::Memory;
-use case_disk::Outcome;
 use case_language::{Case, CaseFile, Line, NamedText, Names, difference, plays_of};
 use case_outcomes::outcome_of_one;
 use case_setting::{Played, Script};
+use case_steps::Outcome;
 use std::alloc::{AllocError, Global};
 use std::io::Print;
 use std::sync::Wait;

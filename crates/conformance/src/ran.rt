@@ -1,8 +1,8 @@
 //! What a run gives, as lines of a case.
 use crate::objects::Objects;
 use capture::{Memory, put_number};
-use case_disk::Outcome;
 use case_outcomes::put_sent;
+use case_steps::Outcome;
 use command::Status;
 use outside::Heard;
 use std::alloc::Global;

@@ -2,8 +2,8 @@
 use crate::objects::{Objects, objects_of};
 use crate::ran::put_told;
 use capture::Memory;
-use case_disk::{Outcome, after, disk_of, kept};
 use case_setting::{Script, Setting};
+use case_steps::{Outcome, after, disk_of, kept};
 use command::Ran;
 use disk_model::MemoryDisk;
 use proxy_run::{CREW, run};

@@ -41,7 +41,7 @@ pub fn disk_of(
 }
 
 /// The disk with the fuse of the setting, and its way of failing.
-pub fn set(disk: MemoryDisk, setting: DiskSetting) -> MemoryDisk {
+fn set(disk: MemoryDisk, setting: DiskSetting) -> MemoryDisk {
     let disk = match setting.fuse {
         Some(calls) => disk.fused(calls),
         None => disk,
@@ -53,7 +53,7 @@ pub fn set(disk: MemoryDisk, setting: DiskSetting) -> MemoryDisk {
 }
 
 /// The numbers of the calls that are to fail, counted from the first by which the files are put.
-pub fn behind_files(alloc: Global, setting: DiskSetting) -> Result<Vec<u64>, AllocError> {
+fn behind_files(alloc: Global, setting: DiskSetting) -> Result<Vec<u64>, AllocError> {
     let checkpoints = setting.checkpoints.len() as u64;
     let files = checkpoints.saturating_add(setting.volumes.len() as u64);
     let made = CALLS.saturating_mul(files);
