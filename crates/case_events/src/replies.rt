@@ -1,11 +1,11 @@
 //! What events reply, as texts.
 use archive_shelf::RollFault;
 use capture::Memory;
-use case_steps::Outcome;
-use case_stores::{
+use case_captures::{
     bring_fault_bytes, brought_text, counts_text, number_text, numbers_of, receipt_text,
     reopen_fault_text, store_fault_text,
 };
+use case_steps::Outcome;
 use checkpoint::CheckpointFault;
 use event_core::{EventFault, Ran, RanEnd, Reply};
 use std::alloc::Global;

@@ -1,15 +1,15 @@
 //! What is asked of an archive that is open.
 use crate::filling::{filled, load_in};
-use crate::finding::{brought, entry_text, found_by_date, mapped, starting_with};
 use crate::following::piece_taken;
 use crate::pieces::{piece_of, volumes_text};
-use crate::replying::counts_text;
 use crate::settling::settled;
 use crate::storing::{compared, rolled, stored};
-use crate::words;
 use archive_core::Archive;
 use capture::Memory;
-use case_captures::{exchanged_in, prepared_of};
+use case_captures::{
+    brought, counts_text, entry_text, exchanged_in, found_by_date, mapped, prepared_of,
+    starting_with, told_bytes, told_text,
+};
 use case_language::number_in;
 use case_steps::Deed;
 use disk_model::Disk;
@@ -26,9 +26,9 @@ pub fn told<D: Disk>(
         "store" => store(alloc, archive, text),
         "fill" => fill(alloc, archive, text),
         "roll" => roll(alloc, archive, text),
-        "compare" => words::text(compared(alloc, archive, text)),
-        "settle" => words::text(settled(alloc, archive)),
-        "take-piece" => words::text(piece_taken(alloc, archive, text)),
+        "compare" => told_text(compared(alloc, archive, text)),
+        "settle" => told_text(settled(alloc, archive)),
+        "take-piece" => told_text(piece_taken(alloc, archive, text)),
         _ => found(alloc, archive, step),
     }
 }
@@ -44,9 +44,9 @@ fn found<D: Disk>(
         "by-date" => found_by_date(alloc, archive, text),
         "map" => mapped(alloc, archive, text),
         "starting" => starting_with(alloc, archive, text),
-        "counts" => words::text(counts_text(alloc, archive.counts())),
-        "faults" => words::text(faults_text(alloc, archive.faults())),
-        "volumes" => words::bytes(volumes_text(alloc, archive)),
+        "counts" => told_text(counts_text(alloc, archive.counts())),
+        "faults" => told_text(faults_text(alloc, archive.faults())),
+        "volumes" => told_bytes(volumes_text(alloc, archive)),
         _ => match capture_in(text) {
             Some(number) => of_capture(alloc, archive, step.name, number),
             None => Ok(None),
@@ -62,9 +62,9 @@ fn of_capture<D: Disk>(
     number: u32,
 ) -> Result<Option<Vec<u8>>, Memory> {
     match name {
-        "bring" => words::bytes(brought(alloc, archive, number)),
-        "piece" => words::bytes(piece_of(alloc, archive, number)),
-        "entry" => words::text(entry_text(alloc, archive.entry(number))),
+        "bring" => told_bytes(brought(alloc, archive, number)),
+        "piece" => told_bytes(piece_of(alloc, archive, number)),
+        "entry" => told_text(entry_text(alloc, archive.entry(number))),
         _ => Ok(None),
     }
 }
@@ -87,7 +87,7 @@ fn store<D: Disk>(
         return Ok(None);
     };
     match prepared_of(alloc, &exchanged)? {
-        Some(prepared) => words::text(stored(alloc, archive, prepared.taken)),
+        Some(prepared) => told_text(stored(alloc, archive, prepared.taken)),
         None => Ok(None),
     }
 }

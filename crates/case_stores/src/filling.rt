@@ -2,12 +2,10 @@
 ghost use Rattle.std.specs.Prelude.{IfOk, IfSome};
 ghost use Rattle.case_captures.specs.Preparing.{IsPrepared};
 
-use crate::storing::store_fault_text;
-use crate::words;
 use archive_core::Archive;
 use archive_shelf::{Receipt, Shelf, StoreFault};
 use capture::Memory;
-use case_captures::{Exchanged, Prepared, prepared_of};
+use case_captures::{Exchanged, Prepared, prepared_of, store_fault_text, told_bytes, told_text};
 use case_language::{TextWords, number_in};
 use disk_model::Disk;
 use load_maker::{date, origin, uri};
@@ -42,10 +40,10 @@ pub fn filled<D: Disk>(
             return Ok(None);
         };
         if let Some(fault) = fault_of(alloc, archive, prepared)? {
-            return words::text(refused(alloc, number, fault));
+            return told_text(refused(alloc, number, fault));
         }
     }
-    words::bytes(told(alloc))
+    told_bytes(told(alloc))
 }
 
 fn told(alloc: Global) -> Result<Vec<u8>, Memory> {

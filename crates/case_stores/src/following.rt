@@ -1,9 +1,9 @@
 //! A step that takes the piece of another archive's capture.
-use crate::storing::damage_text;
 use archive_core::Archive;
 use archive_pieces::PieceFault;
 use archive_taking::take_piece;
 use capture::Memory;
+use case_captures::damage_text;
 use disk_model::Disk;
 use std::alloc::Global;
 

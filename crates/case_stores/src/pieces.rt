@@ -1,9 +1,9 @@
 //! Steps that give the pieces of captures and tell the volumes.
-use crate::finding::bring_fault_bytes;
 use archive_core::Archive;
 use archive_shelf::Shelf;
 use archive_volumes::VolumeFacts;
 use capture::{Memory, put_all, put_number};
+use case_captures::bring_fault_bytes;
 use case_texts::put_next_number;
 use disk_model::Disk;
 use std::alloc::Global;

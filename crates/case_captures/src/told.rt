@@ -2,7 +2,7 @@
 use capture::Memory;
 
 /// These bytes.
-pub fn bytes(told: Result<Vec<u8>, Memory>) -> Result<Option<Vec<u8>>, Memory> {
+pub fn told_bytes(told: Result<Vec<u8>, Memory>) -> Result<Option<Vec<u8>>, Memory> {
     match told {
         Ok(bytes) => Ok(Some(bytes)),
         Err(Memory) => Err(Memory),
@@ -10,7 +10,7 @@ pub fn bytes(told: Result<Vec<u8>, Memory>) -> Result<Option<Vec<u8>>, Memory> {
 }
 
 /// This text.
-pub fn text(told: Result<String, Memory>) -> Result<Option<Vec<u8>>, Memory> {
+pub fn told_text(told: Result<String, Memory>) -> Result<Option<Vec<u8>>, Memory> {
     match told {
         Ok(text) => Ok(Some(text.into_bytes())),
         Err(Memory) => Err(Memory),

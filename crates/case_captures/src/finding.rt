@@ -1,6 +1,6 @@
 //! Steps that bring captures back and find them by date, and what they tell.
-use crate::storing::{damage_text, put_digest};
-use crate::words;
+use crate::replies::{damage_text, put_digest};
+use crate::told::{told_bytes, told_text};
 use archive_shelf::{BringFault, Finder, Shelf};
 use capture::{Brought, Memory, put_all};
 use case_language::{number_in, split_word};
@@ -65,7 +65,7 @@ pub fn found_by_date<F: Finder>(
         return Ok(None);
     };
     match key_in(alloc, uri)? {
-        Some(key) => words::text(nearest_to(alloc, finder, &key, time)),
+        Some(key) => told_text(nearest_to(alloc, finder, &key, time)),
         None => Ok(None),
     }
 }
@@ -94,7 +94,7 @@ pub fn mapped<F: Finder>(
     uri: &[u8],
 ) -> Result<Option<Vec<u8>>, Memory> {
     match key_in(alloc, uri)? {
-        Some(key) => words::bytes(with_key(alloc, finder, &key)),
+        Some(key) => told_bytes(with_key(alloc, finder, &key)),
         None => Ok(None),
     }
 }
@@ -106,7 +106,7 @@ pub fn starting_with<F: Finder>(
     uri: &[u8],
 ) -> Result<Option<Vec<u8>>, Memory> {
     match key_in(alloc, uri)? {
-        Some(key) => words::bytes(beginning_with(alloc, finder, &key)),
+        Some(key) => told_bytes(beginning_with(alloc, finder, &key)),
         None => Ok(None),
     }
 }
