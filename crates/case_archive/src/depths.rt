@@ -1,12 +1,10 @@
 //! A step that opens an archive by both depths, and tells which of them asks for less.
 ghost use Rattle.case_stores.specs.Opening.{IsOpening};
 
-use crate::held::Held;
-use crate::opening::reopened;
 use archive_shelf::Depth;
 use capture::Memory;
 use case_steps::{Outcome, after};
-use case_stores::Opening;
+use case_stores::{Held, Opening, reopened};
 use disk_model::MemoryDisk;
 use std::alloc::Global;
 

@@ -5,10 +5,7 @@
 mod altered;
 mod checkpoints;
 mod depths;
-mod held;
 mod looking;
-mod opening;
 mod play;
 
-pub use held::Held;
-pub use play::{altered_outcome_of, do_step, outcome_of};
+pub use play::{altered_outcome_of, outcome_of};

@@ -2,20 +2,14 @@
 use crate::altered::AlteredDisk;
 use crate::checkpoints::{checkpoint_in, put_checkpoint};
 use crate::depths::opened_by_both;
-use crate::held::Held;
 use crate::looking::{stored_after, timed_in};
-use crate::opening::opened;
 use archive_core::Archive;
-use archive_shelf::Depth;
 use capture::Memory;
 use case_language::number_in;
-use case_steps::{Change, Deed, Outcome, Player, after, kept, outcome_of_steps};
-use case_stores::{opening_in, told};
-use disk_model::{Disk, MemoryDisk};
+use case_steps::{Change, Deed, Outcome, Player, after, none_of, outcome_of_steps};
+use case_stores::{Held, do_step, opening_in, put_closed};
+use disk_model::MemoryDisk;
 use std::alloc::Global;
-
-/// What is told where no archive is open.
-const CLOSED: &[u8] = b"closed";
 
 /// What each step tells, over a disk that can be stopped. A step `stop` without a number stops by this choice. `None` where a step is
 /// none, or the disk could not be stopped.
@@ -101,11 +95,6 @@ fn stopped_by(disk: MemoryDisk, choice: u32) -> Option<Held<MemoryDisk>> {
     }
 }
 
-/// None of these, which is let go.
-fn none_of<T: Drop>(_held: T) -> Option<T> {
-    None
-}
-
 /// Lets so many further calls of the disk pass, and each behind them fail.
 fn fused(held: Held<MemoryDisk>, text: &[u8]) -> Option<Held<MemoryDisk>> {
     match number_in(text) {
@@ -161,7 +150,7 @@ fn looked_and_stored(
     text: &[u8],
 ) -> Result<Option<Held<MemoryDisk>>, Memory> {
     match held {
-        Held::Disk(disk) => closed(alloc, outcome, disk),
+        Held::Disk(disk) => put_closed(alloc, outcome, disk),
         Held::Archive(archive) => stored_timed(alloc, outcome, archive, text),
     }
 }
@@ -180,68 +169,4 @@ fn stored_timed(
         Ok(None) => Ok(None),
         Err(Memory) => Err(Memory),
     }
-}
-
-/// Does a step over any disk. `None` where it is none.
-pub fn do_step<D: Disk + Drop>(
-    alloc: Global,
-    outcome: &mut Outcome,
-    held: Held<D>,
-    step: &Deed,
-) -> Result<Option<Held<D>>, Memory> {
-    match step.name {
-        "open" => reopened(alloc, outcome, held, step, Depth::Whole),
-        "open-lines" => reopened(alloc, outcome, held, step, Depth::Checkpoints),
-        _ => asked(alloc, outcome, held, step),
-    }
-}
-
-fn reopened<D: Disk + Drop>(
-    alloc: Global,
-    outcome: &mut Outcome,
-    held: Held<D>,
-    step: &Deed,
-    depth: Depth,
-) -> Result<Option<Held<D>>, Memory> {
-    match opening_in(step.text.as_slice()) {
-        Some(opening) => opened(alloc, outcome, held.closed(), &opening, depth),
-        None => Ok(none_of(held)),
-    }
-}
-
-fn asked<D: Disk + Drop>(
-    alloc: Global,
-    outcome: &mut Outcome,
-    held: Held<D>,
-    step: &Deed,
-) -> Result<Option<Held<D>>, Memory> {
-    match held {
-        Held::Disk(disk) => closed(alloc, outcome, disk),
-        Held::Archive(mut archive) => {
-            let done = answered(alloc, outcome, &mut archive, step);
-            kept(Held::Archive(archive), done)
-        }
-    }
-}
-
-/// Tells what is asked of an archive. Whether the step is one.
-fn answered<D: Disk>(
-    alloc: Global,
-    outcome: &mut Outcome,
-    archive: &mut Archive<D>,
-    step: &Deed,
-) -> Result<bool, Memory> {
-    match told(alloc, archive, step)? {
-        Some(text) => after(outcome.put_answer(alloc, text.as_slice()), true),
-        None => Ok(false),
-    }
-}
-
-/// Tells that no archive is open.
-fn closed<D: Disk + Drop>(
-    alloc: Global,
-    outcome: &mut Outcome,
-    disk: D,
-) -> Result<Option<Held<D>>, Memory> {
-    after(outcome.put_answer(alloc, CLOSED), Some(Held::Disk(disk)))
 }

@@ -1,7 +1,7 @@
 //! Where the folder is, between two steps.
 use crate::quiet::Quiet;
 use capture::Memory;
-use case_archive::Held;
+use case_stores::Held;
 use folder_disk::{ArchiveNames, FolderDisk};
 
 /// The disk in the folder.

@@ -27,3 +27,8 @@ pub fn is_some<T: Drop>(found: Result<Option<T>, Memory>) -> Result<bool, Memory
         Err(Memory) => Err(Memory),
     }
 }
+
+/// None of these, which is let go.
+pub fn none_of<T: Drop>(_held: T) -> Option<T> {
+    None
+}

@@ -12,7 +12,7 @@ mod work;
 
 pub use deed::Deed;
 pub use disk::{DiskSetting, disk_of};
-pub use ends::{after, kept};
+pub use ends::{after, kept, none_of};
 pub use given::{Change, FolderSetting};
 pub use outcome::Outcome;
 pub use player::{Player, outcome_of_steps};

@@ -2,12 +2,12 @@
 ghost use Rattle.case_stores.specs.Opening.{IsOpening};
 
 use crate::held::Held;
+use crate::terms::Opening;
 use archive_reopening::reopen;
 use archive_shelf::Depth;
 use capture::Memory;
 use case_captures::{counts_text, reopen_fault_text};
 use case_steps::{Outcome, after};
-use case_stores::Opening;
 use disk_model::Disk;
 use std::alloc::Global;
 
