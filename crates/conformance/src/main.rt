@@ -5,11 +5,11 @@
 #![tactic(auto)]
 
 mod objects;
-mod play;
 mod ran;
 mod runs;
 
-use play::play_file;
+use case_outcomes::play_file;
+use runs::Memproxy;
 use std::process::ExitCode;
 use std::{env, fs, io};
 
@@ -17,7 +17,7 @@ fn main(rt: HostRuntime) -> io::Result<ExitCode> {
     let mut all_as_expected = true;
     for name in env::args(&rt)?.skip(1) {
         let text = fs::read_to_string(&rt, name.as_str())?;
-        let tally = play_file(&rt, rt.alloc(), text.as_str())?;
+        let tally = play_file::<Memproxy, _>(&rt, rt.alloc(), text.as_str())?;
         println!(rt; "{}: {tally}", name)?;
         all_as_expected = all_as_expected && tally.differences == 0;
     }

@@ -2,6 +2,7 @@
 use crate::objects::{Objects, objects_of};
 use crate::ran::put_told;
 use capture::Memory;
+use case_outcomes::Program;
 use case_setting::{Script, Setting};
 use case_steps::{Outcome, after, disk_of, kept};
 use command::Ran;
@@ -14,16 +15,28 @@ use std::thread::Threads;
 /// The line between what one run gives and what the next does.
 const THEN: &[u8] = b"then";
 
-/// What the runs of a case give in this turn, a line `then` between them. `None` where a disk could not be made or stopped.
-pub fn outcome_of_runs<R>(
+/// The program, over objects in memory.
+#[derive(Clone, Copy)]
+pub struct Memproxy;
+
+impl Program for Memproxy {
+    fn outcome_of_runs<R: Threads + Wait + Sync>(
+        rt: &R,
+        alloc: Global,
+        script: &Script,
+        turn: u32,
+    ) -> Result<Option<Outcome>, Memory> {
+        all_given(rt, alloc, script, turn)
+    }
+}
+
+/// What all runs give in this turn.
+fn all_given<R: Threads + Wait + Sync>(
     rt: &R,
     alloc: Global,
     script: &Script,
     turn: u32,
-) -> Result<Option<Outcome>, Memory>
-where
-    R: Threads + Wait + Sync,
-{
+) -> Result<Option<Outcome>, Memory> {
     let Ok(disk) = disk_of(alloc, script.first.disk())? else {
         return Ok(None);
     };

@@ -1,8 +1,9 @@
 //! Plays the cases of a file.
-use crate::runs::outcome_of_runs;
+ghost use Rattle.std.specs.Thread.{IsSync};
+
+use crate::single::outcome_of_one;
 use capture::Memory;
 use case_language::{Case, CaseFile, Line, NamedText, Names, difference, plays_of};
-use case_outcomes::outcome_of_one;
 use case_setting::{Played, Script};
 use case_steps::Outcome;
 use std::alloc::{AllocError, Global};
@@ -10,6 +11,18 @@ use std::io::Print;
 use std::sync::Wait;
 use std::thread::Threads;
 use std::{fmt, io};
+
+/// The program, whose runs a case may play.
+pub trait Program {
+    /// What the runs of a case give in this turn, a line `then` between them. `None` where a disk could not be made or stopped.
+    fn outcome_of_runs<R: Threads + Wait + Sync>(
+        rt: &R,
+        alloc: Global,
+        script: &Script,
+        turn: u32,
+    ) -> Result<Option<Outcome>, Memory>
+        requires { IsSync R.row };
+}
 
 /// How many cases a file has, and how many of their plays gave something else than was expected.
 #[derive(Clone, Copy)]
@@ -28,14 +41,14 @@ impl fmt::Display for Tally {
 }
 
 /// Plays each case of the text, and prints the differences.
-pub fn play_file<R>(rt: &R, alloc: Global, text: &str) -> io::Result<Tally>
+pub fn play_file<P: Program, R>(rt: &R, alloc: Global, text: &str) -> io::Result<Tally>
 where
     R: Threads + Wait + Sync + Print,
 {
     let file = CaseFile::of(alloc, text)?;
     let mut differences = 0u64;
     for case in file.cases.as_slice() {
-        let differed = play_case(rt, alloc, file.texts.as_slice(), case)?;
+        let differed = play_case::<P, R>(rt, alloc, file.texts.as_slice(), case)?;
         differences = differences.saturating_add(differed);
     }
     Ok(Tally {
@@ -45,7 +58,12 @@ where
 }
 
 /// Plays a case for each of its numbers, and says how often it differed.
-fn play_case<R>(rt: &R, alloc: Global, texts: &[NamedText], case: &Case) -> io::Result<u64>
+fn play_case<P: Program, R>(
+    rt: &R,
+    alloc: Global,
+    texts: &[NamedText],
+    case: &Case,
+) -> io::Result<u64>
 where
     R: Threads + Wait + Sync + Print,
 {
@@ -59,7 +77,7 @@ where
     }
     let mut differences = 0u64;
     for k in numbers {
-        match play_once(rt, alloc, case, Names { k, texts }) {
+        match play_once::<P, R>(rt, alloc, case, Names { k, texts }) {
             Ok(None) => continue,
             Ok(Some(text)) => println!(rt; "{} ({k}): {text}", case.name)?,
             Err(Memory) => println!(rt; "{} ({k}): no memory", case.name)?,
@@ -70,16 +88,21 @@ where
 }
 
 /// Plays a case for one number, and each choice of its stops. The answer is the first difference.
-fn play_once<R>(rt: &R, alloc: Global, case: &Case, names: Names) -> Result<Option<String>, Memory>
+fn play_once<P: Program, R>(
+    rt: &R,
+    alloc: Global,
+    case: &Case,
+    names: Names,
+) -> Result<Option<String>, Memory>
 where
     R: Threads + Wait + Sync,
 {
     let mut script = Script::new(alloc)?;
-    difference_by(rt, alloc, &mut script, case, names)
+    difference_by::<P, R>(rt, alloc, &mut script, case, names)
 }
 
 /// The first difference of a case, whose lines this script takes.
-fn difference_by<'a, R>(
+fn difference_by<'a, P: Program, R>(
     rt: &R,
     alloc: Global,
     script: &mut Script<'a>,
@@ -93,7 +116,7 @@ where
         return Ok(Some(text));
     }
     for turn in 0..script.turns() {
-        let outcome = outcome_of(rt, alloc, script, turn)?;
+        let outcome = outcome_of::<P, R>(rt, alloc, script, turn)?;
         if let Some(text) = difference_from(alloc, case, outcome, turn, names)? {
             return Ok(Some(text));
         }
@@ -147,7 +170,7 @@ fn in_turn(
 
 /// What the case gives in this turn. `None` where there is no such call, where an object of the case could not be made, or
 /// where something else than a run stands behind a line `then` or before it.
-fn outcome_of<R>(
+fn outcome_of<P: Program, R>(
     rt: &R,
     alloc: Global,
     script: &Script,
@@ -157,7 +180,7 @@ where
     R: Threads + Wait + Sync,
 {
     match &script.first.played {
-        Played::Program if script.goes_on() => outcome_of_runs(rt, alloc, script, turn),
+        Played::Program if script.goes_on() => P::outcome_of_runs(rt, alloc, script, turn),
         Played::Program => Ok(None),
         _ if script.further.is_empty() => outcome_of_one(rt, alloc, &script.first, turn),
         _ => Ok(None),
