@@ -1,6 +1,6 @@
 //! What passes answer and leave, where it is as it has to be.
 use archive_shelf::Counts;
-use vault_passes::StoreAnswer;
+use shelf_samples::StoreAnswer;
 
 /// Whether the first capture keeps its wire, and the second one refers to it.
 pub(crate) fn are_first_and_second(first: StoreAnswer, second: StoreAnswer) -> bool {

@@ -4,6 +4,8 @@
 #[cfg(test)]
 mod answers;
 #[cfg(test)]
+mod passes;
+#[cfg(test)]
 mod seats;
 #[cfg(test)]
 mod shelves;

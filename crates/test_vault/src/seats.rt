@@ -3,10 +3,10 @@ ghost use Rattle.std.specs.Prelude.{◌≡◌};
 ghost use Rattle.std.specs.List.{All};
 ghost use Rattle.vault.specs.Members.{IsMember};
 
+use crate::passes::{let_go, seated};
 use disk_model::Disk;
 use std::process::Abort;
 use vault::{At, Naming, Vault, VaultPass};
-use vault_passes::{let_go, seated};
 
 /// The first and the second of two passes.
 pub(crate) fn two_seated<'a, J: Naming, R: Abort, D: Disk>(

@@ -2,16 +2,17 @@
 ghost use Rattle.std.specs.Prelude.{◌≡◌};
 
 use crate::answers::{are_first_and_second, has_both};
+use crate::passes::{begun, counted, vault_over};
 use crate::seats::two_seated;
 use archive_core::Archive;
 use archive_shelf::Shelf;
 use disk_model::{Disk, MemoryDisk};
+use shelf_samples::{Sample, brings, found, ship_alike, stored};
 use std::alloc::Global;
 use std::marker::Brand;
 use std::process::Abort;
 use std::sync::Wait;
 use vault::{Naming, Unnamed};
-use vault_passes::{Sample, begun, brings, counted, found, ship_alike, stored, vault_over};
 
 #[test]
 fn shelves_find_bring_and_ship_what_others_stored(rt: HostRuntime) {

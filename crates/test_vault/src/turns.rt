@@ -2,17 +2,18 @@
 ghost use Rattle.std.specs.Prelude.{◌≡◌};
 
 use crate::answers::{are_first_and_second, has_both};
+use crate::passes::{begun, counted, stored_at, vault_over};
 use crate::seats::three_seated;
 use archive_core::Archive;
 use archive_shelf::Finder;
 use disk_model::{Disk, MemoryDisk};
+use shelf_samples::{Sample, StoreAnswer, found};
 use std::alloc::Global;
 use std::marker::Brand;
 use std::process::Abort;
 use std::sync::Wait;
 use std::thread::{Threads, join};
 use vault::{At, Naming, Unnamed};
-use vault_passes::{Sample, StoreAnswer, begun, counted, found, stored_at, vault_over};
 
 /// Two captures are stored by two shelves, each in a thread of its own.
 fn stored_beside<'a, J: Naming + Send + Sync, R: Threads + Wait + Sync, D: Disk + Send>(

@@ -1,10 +1,12 @@
 //! A vault compares before its committing turn. No clause says so: one that compares within it would hold up all other passes meanwhile.
 ghost use Rattle.std.specs.Prelude.{◌≡◌};
 
+use crate::passes::{begun, stored_at, vault_over};
 use crate::seats::two_seated;
 use archive_core::Archive;
 use archive_shelf::Shelf;
 use disk_model::Disk;
+use shelf_samples::{Meeting, Sample, StoreAnswer, WaitingDisk, brings, stored};
 use std::alloc::Global;
 use std::marker::Brand;
 use std::process::Abort;
@@ -12,9 +14,6 @@ use std::rt::Clock;
 use std::sync::{Arc, Wait};
 use std::thread::{Threads, join};
 use vault::{At, Naming, Unnamed};
-use vault_passes::{
-    Meeting, Sample, StoreAnswer, WaitingDisk, begun, brings, stored, stored_at, vault_over,
-};
 
 #[test]
 fn another_pass_reads_between_a_comparison_and_its_commit(rt: HostRuntime) {

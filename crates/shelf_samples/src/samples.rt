@@ -1,4 +1,4 @@
-//! Captures that passes store.
+//! Captures that are stored.
 ghost use Rattle.std.specs.Prelude.{IfSome};
 ghost use Rattle.warc_text.specs.Fits.{Fits};
 
@@ -6,7 +6,7 @@ use capture::Taken;
 use case_captures::{Exchanged, prepared_of};
 use std::alloc::Global;
 
-/// A capture that a pass stores.
+/// A capture that is stored.
 #[derive(Clone, Copy)]
 pub enum Sample {
     /// One whose body is as long as its head tells.

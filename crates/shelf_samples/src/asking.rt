@@ -1,13 +1,10 @@
-//! What passes store, find and bring, as any shelf.
+//! What a shelf is asked: to store, find, bring and ship.
 use crate::samples::{Sample, address_of, payload_of, taken_of};
 use archive_shelf::{Finder, Receipt, Shelf, StoreFault};
 use capture::Memory;
-use disk_model::Disk;
 use index_entry::Entry;
 use std::alloc::Global;
-use std::sync::Wait;
 use surt_key::key_of_address;
-use vault::{At, Naming};
 
 /// What a store answered: the capture's number and that of the one that it refers to. Where it was refused, the number is the last
 /// one that there is.
@@ -31,16 +28,6 @@ pub fn stored<S: Shelf>(alloc: Global, shelf: &mut S, sample: Sample) -> StoreAn
         Some(taken) => answer_of(shelf.store(alloc, &taken)),
         None => REFUSED,
     }
-}
-
-/// The same for a pass, which is given back.
-pub fn stored_at<'a, J: Naming, R: Wait, D: Disk>(
-    alloc: Global,
-    mut at: At<'a, R, D, J>,
-    sample: Sample,
-) -> (At<'a, R, D, J>, StoreAnswer) {
-    let answer = stored(alloc, &mut at, sample);
-    (at, answer)
 }
 
 /// What a store answered.

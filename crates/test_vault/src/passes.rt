@@ -8,6 +8,7 @@ use archive_reopening::reopen;
 use archive_shelf::{Counts, Depth};
 use capture::Limits;
 use disk_model::Disk;
+use shelf_samples::{Sample, StoreAnswer, stored};
 use shown::Shown;
 use std::alloc::Global;
 use std::sync::Wait;
@@ -24,7 +25,7 @@ fn not_said<R>(rt: &R) -> Shown<Sure>
 }
 
 /// The vault and its passes.
-pub fn begun<J: Naming, D: Disk>(unnamed: Unnamed<D>) -> (Vault<D>, Vec<VaultPass>)
+pub(crate) fn begun<J: Naming, D: Disk>(unnamed: Unnamed<D>) -> (Vault<D>, Vec<VaultPass>)
     requires { unnamed ≡ J.vault }
     ensures vault { result.0 ≡ J.vault.lock }
     ensures passes { All (λ p. IsMember J.vault p.known) result.1.items }
@@ -42,7 +43,7 @@ fn next_pass<J: Naming>(passes: &mut Vec<VaultPass>) -> Option<VaultPass>
 }
 
 /// The last pass of these at its vault, if there is one.
-pub fn seated<'a, J: Naming, R, D: Disk>(
+pub(crate) fn seated<'a, J: Naming, R, D: Disk>(
     rt: &'a R,
     vault: &'a Vault<D>,
     passes: &mut Vec<VaultPass>,
@@ -57,18 +58,28 @@ pub fn seated<'a, J: Naming, R, D: Disk>(
     Some(At::new(rt, vault, pass))
 }
 
+/// Stores a capture by a pass, which is given back.
+pub(crate) fn stored_at<'a, J: Naming, R: Wait, D: Disk>(
+    alloc: Global,
+    mut at: At<'a, R, D, J>,
+    sample: Sample,
+) -> (At<'a, R, D, J>, StoreAnswer) {
+    let answer = stored(alloc, &mut at, sample);
+    (at, answer)
+}
+
 /// The passes that are left are over.
-pub fn let_go(_passes: Vec<VaultPass>) {}
+pub(crate) fn let_go(_passes: Vec<VaultPass>) {}
 
 /// How much an archive holds, which is closed, and its disk too.
-pub fn counted<D: Disk + Drop>(archive: Archive<D>) -> Counts {
+pub(crate) fn counted<D: Disk + Drop>(archive: Archive<D>) -> Counts {
     let counts = archive.counts();
     drop(archive.close());
     counts
 }
 
 /// A vault round the archive of a disk, with so many passes. `None` where there is no memory, or the disk has no archive.
-pub fn vault_over<R: Wait, D: Disk + Drop>(
+pub(crate) fn vault_over<R: Wait, D: Disk + Drop>(
     rt: &R,
     alloc: Global,
     disk: D,
