@@ -1,2 +1,3 @@
 -- What only proofs read.
+pub mod Paths
 pub mod Reading

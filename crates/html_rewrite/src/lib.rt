@@ -7,6 +7,7 @@ mod law;
 mod link;
 mod names;
 mod opening;
+mod outline;
 mod page;
 mod raw_text;
 mod reading;

@@ -1,11 +1,14 @@
 //! What the links of a page are replaced by.
-ghost use Rattle.std.specs.Prelude.{◌≡◌, ◌++◌, IfOk, OnOk, option_copied};
+ghost use Rattle.std.specs.Prelude.{◌≡◌, ◌++◌, IfOk, OnOk, option_copied, option_map};
 ghost use Rattle.time_text.specs.Texts.{InRange};
+ghost use Rattle.url.specs.Parts.{serialize};
 ghost use Rattle.html_rewrite.specs.Links as spec;
+ghost use Rattle.html_rewrite.specs.steps.Paths.{IsOutlined};
 
+use crate::outline::{Outline, outline_of};
 use crate::reference::{decode, escaped_len, put_escaped};
 use crate::room::make_room;
-use capture::{Memory, Site};
+use capture::{Bytes, Memory, Site};
 use memchr::memchr;
 use std::alloc::Global;
 use time_text::write_time;
@@ -18,8 +21,11 @@ pub struct Links {
     pub prefix: Vec<u8>,
     /// The page's own address, if that is a URL.
     pub base: Option<Url>,
+    /// What references are joined to in place of that address, where its path is long.
+    pub outline: Option<Outline>,
     /// How many bytes the page with its links replaced has at most.
     pub limit: usize,
+    ghost outlined: { IsOutlined base outline },
 }
 
 impl Links {
@@ -36,11 +42,13 @@ impl Links {
         ensures base { IfOk result (λ links. links.base ≡ spec.page_url base.now) }
         ensures limit { IfOk result (λ links. links.limit ≡ limit) }
     {
-        let base = page_url(alloc, base)?;
         let prefix = archive_prefix(alloc, time, site)?;
+        let base = page_url(alloc, base)?;
+        let outline = outline_of(alloc, base.as_ref())?;
         Ok(Links {
             prefix,
             base,
+            outline,
             limit,
         })
     }
@@ -50,7 +58,7 @@ impl Links {
         ensures { OnOk result (out.new.items ≡ out.old.items ++ spec.link self.now.prefix.items self.now.base value.now) }
     {
         match self.target(*out.allocator(), value)? {
-            Some(url) => self.put_address(out, url.as_str().as_bytes()),
+            Some(address) => self.put_address(out, address.as_slice()),
             None => {
                 make_room(out, value.len(), self.limit)?;
                 out.extend_from_slice(value)?;
@@ -72,27 +80,53 @@ impl Links {
         put_escaped(out, target)
     }
 
-    /// Where a value leads to, if it is to be replaced.
-    fn target(&self, alloc: Global, value: &[u8]) -> Result<Option<Url>, Memory>
-        ensures { IfOk result (λ target. target ≡ spec.target_of self.now.base value.now) }
+    /// The text of what a value leads to, if it is to be replaced.
+    fn target(&self, alloc: Global, value: &[u8]) -> Result<Option<Bytes>, Memory>
+        ensures { IfOk result (λ address. address ≡ option_map serialize (spec.target_of self.now.base value.now)) }
     {
         match memchr(b'&', value) {
             Some(_) => {
                 let reference = decode(alloc, value)?;
-                self.read_target(reference.as_slice())
+                self.read_target(alloc, reference.as_slice())
             }
-            None => self.read_target(value),
+            None => self.read_target(alloc, value),
         }
     }
 
-    /// Where a value that was read leads to, if it is to be replaced.
-    fn read_target(&self, reference: &[u8]) -> Result<Option<Url>, Memory>
-        ensures { IfOk result (λ target. target ≡ spec.target_read self.now.base reference.now) }
+    /// The text of what a value that was read leads to, if it is to be replaced.
+    fn read_target(&self, alloc: Global, reference: &[u8]) -> Result<Option<Bytes>, Memory>
+        ensures { IfOk result (λ address. address ≡ option_map serialize (spec.target_read self.now.base reference.now)) }
     {
         if begins_as_none(reference) {
             return Ok(None);
         }
-        text_target(self.base.as_ref(), reference)
+        match std::str::from_utf8(reference) {
+            Ok(text) => self.address_from(alloc, text),
+            Err(_) => Ok(None),
+        }
+    }
+
+    /// The text of what a reference leads to from the page's own address, if that is http or https.
+    fn address_from(&self, alloc: Global, reference: &str) -> Result<Option<Bytes>, Memory>
+        ensures { IfOk result (λ address. address ≡ option_map serialize (spec.target_from self.now.base reference.now)) }
+    {
+        let Some(base) = &self.base else {
+            return Ok(None);
+        };
+        match &self.outline {
+            Some(outline) => outline.address_from(alloc, base, reference),
+            None => Ok(address_of(target_from(Some(base), reference)?)),
+        }
+    }
+}
+
+/// The text of the URL, if there is one.
+fn address_of(url: Option<Url>) -> Option<Bytes>
+    ensures { result ≡ option_map serialize url }
+{
+    match url {
+        Some(url) => Some(Bytes::of(String::from(url).into_bytes())),
+        None => None,
     }
 }
 
@@ -126,7 +160,7 @@ fn begins_as_none(reference: &[u8]) -> bool
 }
 
 /// Where a reference leads to from the page's own address, if that is a URL and it leads to http or https.
-fn target_from(base: Option<&Url>, reference: &str) -> Result<Option<Url>, Memory>
+pub fn target_from(base: Option<&Url>, reference: &str) -> Result<Option<Url>, Memory>
     ensures { IfOk result (λ target. target ≡ spec.target_from (option_copied base.entry) reference.now) }
 {
     let Some(base) = base else {
@@ -141,7 +175,7 @@ fn target_from(base: Option<&Url>, reference: &str) -> Result<Option<Url>, Memor
 }
 
 /// Whether the URL has the scheme `http` or `https`.
-fn is_http(url: &Url) -> bool
+pub fn is_http(url: &Url) -> bool
     ensures { result ≡ spec.is_http url.now }
 {
     url.scheme() == "http" || url.scheme() == "https"
