@@ -7,7 +7,8 @@ use Rattle.std.proofs.Crossing.{crosses}
 use Rattle.std.specs.declared.fmt.Display.{Ghosts as Displays}
 use Rattle.folder_model.specs.declared.folder.Folder.{Ghosts as Folders}
 use Rattle.folder_model.specs.declared.folders.Folders.{Ghosts as Places}
-use Rattle.folder_files.proofs.Moving.{files_send, held_send}
+use Rattle.folder_files.proofs.Moving.{files_send}
+use Rattle.held_folder.proofs.Moving.{held_send}
 use Rattle.folder_files.specs.declared.names.FileNames.{Ghosts as Names}
 use Rattle.folder_disk.specs.contracts.standing.Standing as standing
 use Rattle.folder_disk.specs.contracts.folder_disk.FolderDisk as disk

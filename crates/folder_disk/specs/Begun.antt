@@ -2,9 +2,9 @@
 use Rattle.std.specs.Prelude.{ℕ, Bool, IsTrue, List, ⊤}
 use Rattle.disk_model.specs.declared.kind.Kind.{Kind}
 use Rattle.folder_model.specs.Folder.{FolderPast}
-use Rattle.folder_files.specs.Held.{state_of, AreHeld}
-use Rattle.folder_files.specs.State.{IsKnown, IsNew}
-use Rattle.folder_files.specs.declared.held.Held.{Held}
+use Rattle.held_folder.specs.Held.{state_of, AreHeld}
+use Rattle.held_folder.specs.State.{IsKnown, IsNew}
+use Rattle.held_folder.specs.declared.held.Held.{Held}
 use Rattle.folder_disk.specs.declared.beginning.Begun.{Begun}
 use Rattle.folder_disk.specs.declared.beginning.Begun.TheVariants as begun
 

@@ -1,8 +1,8 @@
 -- A disk over a folder with its count of faults, as contracts see it.
 use Rattle.std.specs.Prelude.{ℕ, Option, Some, None}
 use Rattle.folder_model.specs.Folder.{FolderPast}
-use Rattle.folder_files.specs.Held.{InFolder}
-use Rattle.folder_files.specs.State.{State, no_folder}
+use Rattle.held_folder.specs.Held.{InFolder}
+use Rattle.held_folder.specs.State.{State, no_folder}
 
 pub record Kept (F : Type 0) : Type 0 where
   pub held : Option (InFolder F)

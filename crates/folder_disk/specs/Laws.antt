@@ -5,7 +5,7 @@ use Rattle.disk_model.specs.declared.kind.Kind.{Kind}
 use Rattle.folder_model.specs.Folder.{FolderPast}
 use Rattle.folder_model.specs.Found.{IsFoundAfterCrash}
 use Rattle.folder_disk.specs.Found.{IsAsFound}
-use Rattle.folder_files.specs.State.{State, IsKnown, images, reading}
+use Rattle.held_folder.specs.State.{State, IsKnown, images, reading}
 
 -- Behind a crash the next disk reads an image that the crash might leave of the one before.
 abbrev pub CrashedIsImage : Type 0

@@ -2,9 +2,9 @@
 use Rattle.std.specs.Prelude.{ℕ, Option, Some, None, List, ⊤}
 use Rattle.disk_model.specs.declared.kind.Kind.{Kind}
 use Rattle.folder_model.specs.Folder.{FolderPast}
-use Rattle.folder_files.specs.Held.{InFolder, in_folder, AreHeld}
+use Rattle.held_folder.specs.Held.{InFolder, in_folder, AreHeld}
 use Rattle.folder_disk.specs.Kept.{state_in}
-use Rattle.folder_files.specs.State.{State}
+use Rattle.held_folder.specs.State.{State}
 use Rattle.folder_disk.specs.declared.standing.Standing.{Standing}
 use Rattle.folder_disk.specs.declared.standing.Standing.TheVariants.{Held, Absent, Refused}
 

@@ -3,8 +3,8 @@ ghost use Rattle.std.specs.Prelude.{◌≡◌, IsTrue, Some, IfOk, IfSome};
 ghost use Rattle.folder_model.specs.Times.{moment_of};
 ghost use Rattle.folder_disk.specs.Kept.{folder_in, state_in};
 ghost use Rattle.folder_disk.specs.Found.{IsAsFound};
-ghost use Rattle.folder_files.specs.State.{IsKnown, reading, images, images_since};
-ghost use Rattle.folder_files.specs.steps.StateLaws.{reading_counts, no_more, now_counts, now_only, earlier};
+ghost use Rattle.held_folder.specs.State.{IsKnown, reading, images, images_since};
+ghost use Rattle.held_folder.specs.steps.StateLaws.{reading_counts, no_more, now_counts, now_only, earlier};
 
 use crate::archive_names::FOLDER;
 use crate::beginning::find;
@@ -32,7 +32,7 @@ impl<S: Folders, N: FileNames> Model for FolderDisk<S, N> {
     ghost use Rattle.std.specs.Prelude.{IsTrue};
     ghost use Rattle.folder_disk.specs.Kept.{Kept};
     ghost use Rattle.folder_disk.specs.Standing.{state_at, AreOpenAt};
-    ghost use Rattle.folder_files.specs.State.{IsKnown};
+    ghost use Rattle.held_folder.specs.State.{IsKnown};
 
     ghost Value = { Kept S.Folder };
 

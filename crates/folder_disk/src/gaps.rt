@@ -3,9 +3,8 @@
 ghost use Rattle.std.specs.Prelude.{◌≡◌, ◌≢◌, ◌<◌, ◌^◌, ◌+◌, None, IsTrue, IfOk, OnOk};
 ghost use Rattle.folder_model.specs.Calls.{MayMake};
 ghost use Rattle.folder_model.specs.Folder.{contents_of, IsUnfailed};
-ghost use Rattle.folder_files.specs.Counting.{HasBelow, HasNoMore, HasNoMoreOf};
+ghost use Rattle.folder_files.specs.Counting.{HasBelow, HasNoMore, HasNoMoreOf, IsCounted};
 ghost use Rattle.folder_disk.specs.Gaps.{OnlyFills, LeavesFilled};
-ghost use Rattle.folder_files.specs.State.{IsCounted};
 
 use crate::reasons::of_dangling_link;
 use disk_model::Kind;

@@ -1,15 +1,16 @@
 //! How a disk stands to its folder.
 ghost use Rattle.std.specs.Prelude.{◌≡◌, ◌<◌, ◌≤◌, IsTrue, IfOk, OnOk, length, take, drop};
 ghost use Rattle.disk_model.specs.Image.{file_count, file_of};
-ghost use Rattle.folder_files.specs.Calls.{Creates, WritesAt, Cuts, Syncs, Looks};
+ghost use Rattle.held_folder.specs.Calls.{Creates, WritesAt, Cuts, Syncs, Looks};
 ghost use Rattle.folder_disk.specs.Kept.{folder_in};
 ghost use Rattle.folder_disk.specs.Standing.{held_at, state_at, AreOpenAt};
-ghost use Rattle.folder_files.specs.State.{IsKnown, no_folder, reading};
+ghost use Rattle.held_folder.specs.State.{IsKnown, no_folder, reading};
 
 use crate::beginning::{Begun, begin};
 use disk_model::Kind;
-use folder_files::{FileNames, Held, stopped, unknown};
+use folder_files::{FileNames, unknown};
 use folder_model::Folders;
+use held_folder::{Held, stopped};
 use std::alloc::Global;
 use std::io;
 

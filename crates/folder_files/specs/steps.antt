@@ -1,8 +1,3 @@
--- The laws' proofs. They stand here since impls of `Disk` cite them.
+-- The laws' proofs. They stand here since the crates above cite them in theirs.
 pub mod CountLaws
-pub mod FurtherLaws
 pub mod OpenLaws
-pub mod SettleLaws
-pub mod StateLaws
-pub mod SureLaws
-pub mod TrustLaws

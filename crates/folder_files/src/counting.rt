@@ -2,7 +2,7 @@
 ghost use Rattle.std.specs.Prelude.{◌≡◌, ◌≢◌, ◌<◌, ◌≤◌, ◌^◌, ◌++◌, ◌∷◌, [], ℕ, false, None, List, IsTrue, IfOk, OnOk, max};
 ghost use Rattle.folder_model.specs.Folder.{contents_of, IsUnfailed};
 ghost use Rattle.folder_files.specs.Counting.{HasNoMore};
-ghost use Rattle.folder_files.specs.State.{IsCounted, known_of};
+ghost use Rattle.folder_files.specs.Counting.{IsCounted, known_of};
 
 use crate::names::FileNames;
 use crate::reasons::{no_further_number, number_missing};

@@ -47,7 +47,7 @@ impl<T: Drop> OpenFiles<T> {
     }
 
     /// Closes what is open.
-    pub(crate) fn close(&mut self)
+    pub fn close(&mut self)
         ensures written { self.new.written ≡ None }
         ensures read { self.new.read ≡ None }
     {
@@ -56,7 +56,7 @@ impl<T: Drop> OpenFiles<T> {
     }
 
     /// Takes a file out that may be written. One of it that may only be read is closed, since its length goes stale.
-    pub(crate) fn take_for_writing(&mut self, kind: Kind, number: u32) -> Option<OpenOne<T>>
+    pub fn take_for_writing(&mut self, kind: Kind, number: u32) -> Option<OpenOne<T>>
         ensures this { IfSome result (λ one. (one.kind ≡ kind) × (one.number ≡ number) × (self.old.written ≡ Some one)) }
         ensures written { IsLeftIn kind number self.old.written self.new.written }
         ensures read { IsLeftIn kind number self.old.read self.new.read }

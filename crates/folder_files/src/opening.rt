@@ -52,7 +52,7 @@ fn open_file<F: Folder, N: FileNames>(
 }
 
 /// Opens a file that was made empty and to which nothing was written: one that has bytes is another process's.
-pub(crate) fn open_empty<F: Folder, N: FileNames>(
+pub fn open_empty<F: Folder, N: FileNames>(
     folder: &mut F,
     alloc: Global,
     kind: Kind,

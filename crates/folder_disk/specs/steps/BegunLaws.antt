@@ -8,13 +8,14 @@ use Rattle.disk_model.specs.declared.kind.Kind.TheVariants.{Warc, Cdxj}
 use Rattle.folder_model.specs.Folder.{FolderPast}
 use Rattle.folder_model.specs.Times.{moment_of}
 use Rattle.folder_model.specs.Known.{image_of}
-use Rattle.folder_files.specs.Calls.{Creates}
-use Rattle.folder_files.specs.Doubts.{AreTorn, further_of, IsFurther}
-use Rattle.folder_files.specs.declared.trust.Further.TheVariants.{Absent}
-use Rattle.folder_files.specs.declared.trust.Trust.{Trust}
+use Rattle.held_folder.specs.Calls.{Creates}
+use Rattle.held_folder.specs.Doubts.{AreTorn, further_of, IsFurther}
+use Rattle.held_folder.specs.declared.trust.Further.TheVariants.{Absent}
+use Rattle.held_folder.specs.declared.trust.Trust.{Trust}
 use Rattle.folder_disk.specs.Found.{IsAsFound}
-use Rattle.folder_files.specs.State.{State, no_folder, known_of, reading, IsKnown, images, images_since, IsNew}
-use Rattle.folder_files.specs.steps.StateLaws.{counted, no_more, now_counts, now_only}
+use Rattle.folder_files.specs.Counting.{known_of}
+use Rattle.held_folder.specs.State.{State, no_folder, reading, IsKnown, images, images_since, IsNew}
+use Rattle.held_folder.specs.steps.StateLaws.{counted, no_more, now_counts, now_only}
 
 -- ---- no folder
 

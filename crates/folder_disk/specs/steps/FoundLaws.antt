@@ -13,7 +13,8 @@ use Rattle.folder_model.specs.steps.KnownLaws.{reading_is}
 use Rattle.folder_model.specs.steps.ReadingLaws.{each_is_seen}
 use Rattle.folder_disk.specs.Gaps.{IsGap, IsSeenFilled}
 use Rattle.folder_disk.specs.Laws.{CrashedIsImage, LetGoIsRead}
-use Rattle.folder_files.specs.State.{known_of, reading}
+use Rattle.folder_files.specs.Counting.{known_of}
+use Rattle.held_folder.specs.State.{reading}
 
 no_counts : (kind : Kind) → file_count no_files kind ≡ 0
 unfolding files_of

@@ -13,9 +13,8 @@ use Rattle.folder_model.specs.Seen.{NamesApart}
 use Rattle.folder_model.specs.steps.FileLaws.{read_is_left}
 use Rattle.folder_model.specs.steps.FolderLaws.{Before, before_deed, names_cases}
 use Rattle.folder_model.specs.steps.ReadingLaws.{contents_of-same, contents_of-other}
-use Rattle.folder_files.specs.Counting.{HasBelow, HasNoMore}
+use Rattle.folder_files.specs.Counting.{HasBelow, HasNoMore, IsCounted, known_of}
 use Rattle.folder_disk.specs.Gaps.{IsGap, IsMadeGap, IsFilled, with_made, AreGaps, OnlyFills, LeavesFilled}
-use Rattle.folder_files.specs.State.{known_of, IsCounted}
 use Rattle.folder_files.specs.steps.CountLaws.{is_counted}
 
 -- ---- what is there stays so

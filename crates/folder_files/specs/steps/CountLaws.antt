@@ -11,8 +11,7 @@ use Rattle.folder_model.specs.Calls.{Lists}
 use Rattle.folder_model.specs.Folder.{FolderPast, contents_of, IsUnfailed}
 use Rattle.folder_model.specs.Known.{image_of, bytes_or_none}
 use Rattle.folder_model.specs.steps.ReadingLaws.{image_of-count, image_of-file}
-use Rattle.folder_files.specs.Counting.{AreBelow, HasNoMore}
-use Rattle.folder_files.specs.State.{known_of, IsCounted}
+use Rattle.folder_files.specs.Counting.{AreBelow, HasNoMore, IsCounted, known_of}
 
 -- the only name of a list of one
 only_name : (one two : List ℕ) → Contains (one ∷ []) two → one ≡ two

@@ -6,7 +6,7 @@ use Rattle.std.specs.declared.io.ErrorKind.TheVariants.{NotFound}
 use Rattle.folder_model.specs.Folder.{FolderPast}
 use Rattle.folder_disk.specs.Standing.{state_at}
 use Rattle.folder_disk.specs.Found.{IsAsFound}
-use Rattle.folder_files.specs.State.{reading}
+use Rattle.held_folder.specs.State.{reading}
 use Rattle.folder_disk.specs.steps.BegunLaws.{none_found}
 use Rattle.folder_disk.proofs.beginning.find.Goals as goal
 

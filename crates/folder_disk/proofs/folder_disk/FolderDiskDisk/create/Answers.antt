@@ -3,7 +3,7 @@ use Rattle.std.proofs.Common.{subst}
 use Rattle.disk_model.specs.Crash.{Stepped, MayCreate}
 use Rattle.disk_model.specs.Image.{file_count}
 use Rattle.folder_disk.specs.Kept.{Kept, state_in}
-use Rattle.folder_files.specs.State.{images, reading}
+use Rattle.held_folder.specs.State.{images, reading}
 use Rattle.folder_disk.proofs.folder_disk.FolderDiskDisk.create.Goals as goal
 
 pub returns-clause-crash : goal.returns-clause-crash

@@ -2,7 +2,7 @@
 use Rattle.std.proofs.Common.{subst}
 use Rattle.disk_model.specs.Crash.{Stepped, Cut, OnFile}
 use Rattle.folder_disk.specs.Kept.{Kept, state_in}
-use Rattle.folder_files.specs.State.{images}
+use Rattle.held_folder.specs.State.{images}
 use Rattle.folder_disk.proofs.folder_disk.FolderDiskDisk.cut.Goals as goal
 
 pub returns-clause-crash : goal.returns-clause-crash

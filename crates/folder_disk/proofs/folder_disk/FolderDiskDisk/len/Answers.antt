@@ -1,7 +1,7 @@
 -- What a crash may leave follows from what it might have left.
 use Rattle.std.proofs.Common.{subst}
 use Rattle.folder_disk.specs.Kept.{Kept, state_in}
-use Rattle.folder_files.specs.State.{images}
+use Rattle.held_folder.specs.State.{images}
 use Rattle.folder_disk.proofs.folder_disk.FolderDiskDisk.len.Goals as goal
 
 pub returns-clause-crash : goal.returns-clause-crash

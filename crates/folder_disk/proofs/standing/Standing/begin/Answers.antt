@@ -1,9 +1,9 @@
 -- The folder's first file is the disk's, or nothing was done.
 use Rattle.std.proofs.Common.{Err, sym, subst}
 use Rattle.std.specs.declared.io.Error.{Error}
-use Rattle.folder_files.specs.Calls.{Creates}
-use Rattle.folder_files.specs.Held.{state_of}
-use Rattle.folder_files.specs.State.{State, no_folder}
+use Rattle.held_folder.specs.Calls.{Creates}
+use Rattle.held_folder.specs.Held.{state_of}
+use Rattle.held_folder.specs.State.{State, no_folder}
 use Rattle.folder_disk.specs.steps.BegunLaws.{begun_creates, none_created, no_folder_known}
 use Rattle.folder_disk.proofs.standing.Standing.begin.Goals as goal
 

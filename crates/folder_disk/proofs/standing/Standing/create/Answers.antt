@@ -1,7 +1,7 @@
 -- What the disk knows of its folder.
 use Rattle.std.proofs.Common.{subst}
 use Rattle.folder_disk.specs.Standing.{state_at}
-use Rattle.folder_files.specs.State.{IsKnown}
+use Rattle.held_folder.specs.State.{IsKnown}
 use Rattle.folder_disk.proofs.standing.Standing.create.Goals as goal
 
 pub create-requires-clause-known : goal.create-requires-clause-known

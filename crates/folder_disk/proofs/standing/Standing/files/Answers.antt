@@ -2,7 +2,7 @@
 use Rattle.std.proofs.Common.{◌≡◌, sym, subst}
 use Rattle.disk_model.specs.Image.{file_count}
 use Rattle.folder_disk.specs.Standing.{state_at}
-use Rattle.folder_files.specs.State.{IsKnown, reading}
+use Rattle.held_folder.specs.State.{IsKnown, reading}
 use Rattle.folder_disk.specs.steps.BegunLaws.{none_counted}
 use Rattle.folder_disk.proofs.standing.Standing.files.Goals as goal
 

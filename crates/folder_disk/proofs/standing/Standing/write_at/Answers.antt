@@ -2,8 +2,8 @@
 use Rattle.std.proofs.Common.{refl}
 use Rattle.std.specs.declared.io.Error.{Error}
 use Rattle.folder_disk.specs.Standing.{state_at}
-use Rattle.folder_files.specs.State.{State}
-use Rattle.folder_files.specs.steps.StateLaws.{write_not_begun}
+use Rattle.held_folder.specs.State.{State}
+use Rattle.held_folder.specs.steps.StateLaws.{write_not_begun}
 use Rattle.folder_disk.proofs.standing.Standing.write_at.Goals as goal
 
 pub returns-in-Absent-clause-writes : goal.returns-in-Absent-clause-writes

@@ -1,6 +1,0 @@
--- The last file is there.
-use Rattle.std.proofs.Common.{arith}
-use Rattle.folder_files.proofs.held.Held.sync_last.Goals as goal
-
-pub sync-requires-clause-there : goal.sync-requires-clause-there
-sync-requires-clause-there g c = λ told. omega (arith, (c.requires.known told).knows.no_fewer c.args.kind, c.in-Some.ensures.0, c.known.ensures)
