@@ -39,7 +39,20 @@ pub disk_send : (S N F T P : RattleType) (w : Places S.Denot F.Denot T.Denot) (g
 disk_send S N F T P w g n p s f t = let i = inside_send S N F T P w g n p s f t in search (sendable, crosses) depth 20
 
 reading_send : (F N T P : RattleType) → IsSend F → IsSend T → IsSend (reading.the_row F N T P)
-reading_send F N T P f t = let o = files_send T t in search (sendable, crosses) depth 40
+reading_send F N T P f t =
+    declared_send (reading.the_type F N T P) (
+      as_row_send (row_field F) f,
+      (
+        search sendable depth 20,
+        (
+          search sendable depth 20,
+          (
+            files_send T t,
+            (search (sendable, crosses) depth 20, tt),
+          ),
+        ),
+      ),
+    )
 
 pub reader_send : (S N F T P : RattleType) → IsSend S → IsSend F → IsSend T → IsSend (reader.the_row S N F T P)
 reader_send S N F T P s f t = let w = reading_send F N T P f t in search (sendable, crosses) depth 40

@@ -216,8 +216,8 @@ pub fn is_there<F: Folder, N: FileNames>(
     }
 }
 
-/// That a file isn't there, where that is why it couldn't be opened.
-fn absent(error: io::Error) -> io::Result<bool>
+/// That a file isn't there, where that is why a call of it failed.
+pub(crate) fn absent(error: io::Error) -> io::Result<bool>
     ensures { IfOk result (λ is. is ≡ false) }
 {
     if error.kind() == ErrorKind::NotFound {

@@ -1,8 +1,9 @@
-//! The files that stay open: the one that was written last, and the one that was read last.
+//! The files that stay open: the one that was written last, the one that was read last, and those that were left.
 ghost use Rattle.std.specs.Prelude.{◌≡◌, ◌⊎◌, Some, None, IsTrue, false, IfSome, OnOk, OnErr};
 ghost use Rattle.disk_model.specs.Image.{IsApart};
 ghost use Rattle.folder_files.specs.OpenFiles.{IsLeftIn, kept};
 
+use crate::left_files::LeftFiles;
 use disk_model::Kind;
 use std::io;
 
@@ -21,14 +22,16 @@ pub struct OpenOne<T> {
     pub for_writing: bool,
 }
 
-/// Two files at most: the last volume, and another that was read last. A call takes its file out and keeps it where it
-/// succeeds; so what a call that failed left of a file is asked of the folder again.
+/// The last volume, another file that was read last, and the file of each kind that was written and left last. A call takes its
+/// file out and keeps it where it succeeds; so what a call that failed left of a file is asked of the folder again.
 #[derive(Drop)]
 pub struct OpenFiles<T> {
     /// The one that was written last.
     pub written: Option<OpenOne<T>>,
     /// The one that was read last.
     pub read: Option<OpenOne<T>>,
+    /// Those that were open to be written, by which what is opened again under their names is known.
+    pub left: LeftFiles<T>,
     /// Whether another file was found at the name of one that was open. None is opened to be written then: what it has isn't known.
     pub replaced: bool,
 }
@@ -42,27 +45,68 @@ impl<T: Drop> OpenFiles<T> {
         OpenFiles {
             written: None,
             read: None,
+            left: LeftFiles::new(),
             replaced: false,
         }
     }
 
-    /// Closes what is open.
+    /// Leaves the file that was written last, and closes the one that was read.
     pub fn close(&mut self)
         ensures written { self.new.written ≡ None }
         ensures read { self.new.read ≡ None }
     {
-        self.written = None;
         self.read = None;
+        let Some(one) = self.written.take() else {
+            return;
+        };
+        self.left.put(one);
     }
 
-    /// Takes a file out that may be written. One of it that may only be read is closed, since its length goes stale.
+    /// The same behind a call of a file that failed, which may have left any length up to this.
+    pub fn close_torn(&mut self, one: OpenOne<T>, most: u64)
+        ensures written { self.new.written ≡ None }
+        ensures read { self.new.read ≡ None }
+    {
+        self.close();
+        if one.for_writing {
+            self.left.put_torn(one, most);
+        }
+    }
+
+    /// Leaves a file that was taken out, where it may be written. Else it is closed.
+    pub fn leave(&mut self, one: OpenOne<T>)
+        ensures { self.new ≡ record self.old { left = self.new.left } }
+    {
+        if one.for_writing {
+            self.left.put(one);
+        }
+    }
+
+    /// Leaves a file as it was found.
+    pub fn leave_found(&mut self, kind: Kind, number: u32)
+        ensures written { (self.new.written ≡ None) ⊎ (self.new.written ≡ self.old.written) }
+        ensures read { (self.new.read ≡ None) ⊎ (self.new.read ≡ self.old.read) }
+    {
+        let Some(one) = self.take_for_reading(kind, number) else {
+            return;
+        };
+        self.left.put(one);
+    }
+
+    /// Takes a file out that may be written, and leaves another one. One of it that may only be read is closed, since its length
+    /// goes stale.
     pub fn take_for_writing(&mut self, kind: Kind, number: u32) -> Option<OpenOne<T>>
         ensures this { IfSome result (λ one. (one.kind ≡ kind) × (one.number ≡ number) × (self.old.written ≡ Some one)) }
         ensures written { IsLeftIn kind number self.old.written self.new.written }
         ensures read { IsLeftIn kind number self.old.read self.new.read }
     {
         let _stale = taken(&mut self.read, kind, number);
-        taken(&mut self.written, kind, number)
+        let one = self.written.take()?;
+        if is_this(&one, kind, number) {
+            return Some(one);
+        }
+        self.left.put(one);
+        None
     }
 
     /// Takes a file out that may be read.
@@ -80,27 +124,31 @@ impl<T: Drop> OpenFiles<T> {
 
     /// Keeps a file open, in place of the one that was used so last.
     pub fn keep(&mut self, one: OpenOne<T>)
-        ensures { self.new ≡ kept one self.old }
+        ensures { self.new ≡ record (kept one self.old) { left = self.new.left } }
     {
         if one.for_writing {
+            self.left.forget(one.kind, one.number);
             self.written = Some(one);
         } else {
             self.read = Some(one);
         }
     }
 
-    /// Passes on what a call of a file answered, and keeps the file open where it was done. Else it is closed.
+    /// Passes on what a call of a file answered, and keeps the file open where it was done. Else it is left.
     pub fn keep_after(&mut self, done: io::Result<()>, one: OpenOne<T>) -> io::Result<()>
         ensures passed_on { result ≡ done }
-        ensures kept { OnOk done (self.new ≡ kept one self.old) }
-        ensures closed { OnErr done (self.new ≡ self.old) }
+        ensures kept { OnOk done (self.new ≡ record (kept one self.old) { left = self.new.left }) }
+        ensures left { OnErr done (self.new ≡ record self.old { left = self.new.left }) }
     {
         match done {
             Ok(()) => {
                 self.keep(one);
                 Ok(())
             }
-            Err(error) => Err(error),
+            Err(error) => {
+                self.leave(one);
+                Err(error)
+            }
         }
     }
 }

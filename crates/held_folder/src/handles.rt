@@ -7,10 +7,9 @@ ghost use Rattle.folder_files.specs.OpenFiles.{AreOthers, IsOpen};
 use crate::held::Held;
 use crate::reasons::{changed, stopped};
 use disk_model::Kind;
-use folder_files::{FileNames, OpenOne, listed, moved, open_one, unknown};
+use folder_files::{FileNames, OpenOne, is_as_left, is_at_name, listed, moved, open_one, unknown};
 use folder_model::{Access, Folder};
 use std::io;
-use std::io::ErrorKind;
 
 impl<F: Folder, N: FileNames> Held<F, N> {
     /// Takes a file to read it, one that is open or else opened now.
@@ -28,7 +27,21 @@ impl<F: Folder, N: FileNames> Held<F, N> {
         }
     }
 
-    /// Takes a file to write it, one that is open for that or else opened now. No other place has it then.
+    /// Takes a file to sync it, one that is open or else opened now, which isn't another than the one that was left.
+    pub(crate) fn to_sync(&mut self, kind: Kind, number: u32) -> io::Result<OpenOne<F::File>>
+        requires { IsTrue F.tells → AreHeld N.name F.name_of F.past self.old }
+        ensures this { IfOk result (λ one. (one.kind ≡ kind) × (one.number ≡ number)) }
+        ensures open { IsTrue F.tells → IfOk result (IsOpen N.name F.name_of (F.past self.new.timed.folder)) }
+        ensures others { IsTrue F.tells → AreHeld N.name F.name_of F.past self.new }
+        ensures same { IsTrue F.tells → F.past self.new.timed.folder ≡ F.past self.old.timed.folder }
+        ensures rest { self.new ≡ record self.old { timed = record self.old.timed { folder = self.new.timed.folder }; files = self.new.files } }
+    {
+        let one = self.to_read(kind, number)?;
+        self.checked(one)
+    }
+
+    /// Takes a file to write it, one that is open for that or else opened now, which isn't another than the one that was left. No
+    /// other place has it then.
     pub(crate) fn to_write(&mut self, kind: Kind, number: u32) -> io::Result<OpenOne<F::File>>
         requires { IsTrue F.tells → AreHeld N.name F.name_of F.past self.old }
         ensures this { IfOk result (λ one. (one.kind ≡ kind) × (one.number ≡ number)) }
@@ -44,7 +57,7 @@ impl<F: Folder, N: FileNames> Held<F, N> {
     {
         match self.files.take_for_writing(kind, number) {
             Some(one) => self.as_left(one),
-            None => self.opened(kind, number, Access::Update),
+            None => self.opened_as_left(kind, number),
         }
     }
 
@@ -56,14 +69,55 @@ impl<F: Folder, N: FileNames> Held<F, N> {
         ensures same { IsTrue F.tells → F.past self.new.timed.folder ≡ F.past self.old.timed.folder }
         ensures trusted { IsTrue F.tells → self.new.trust ≡ self.old.trust }
         ensures rest { OnOk result (self.new ≡ record self.old { timed = record self.old.timed { folder = self.new.timed.folder } }) }
-        ensures all { self.new ≡ record self.old { timed = record self.old.timed { folder = self.new.timed.folder }; trust = self.new.trust } }
+        ensures all { self.new ≡ record self.old {
+          timed = record self.old.timed { folder = self.new.timed.folder };
+          trust = self.new.trust;
+          files = record self.old.files { left = self.new.files.left };
+        } }
     {
-        let len = self.timed.folder.len(&one.file)?;
-        if len == one.len {
-            return Ok(one);
+        match self.timed.folder.len(&one.file) {
+            Ok(len) => {
+                if len == one.len {
+                    return Ok(one);
+                }
+                self.trust.gave_up = true;
+                Err(changed())
+            }
+            Err(error) => {
+                self.files.leave(one);
+                Err(error)
+            }
         }
-        self.trust.gave_up = true;
-        Err(changed())
+    }
+
+    /// Opens a file to write it.
+    fn opened_as_left(&mut self, kind: Kind, number: u32) -> io::Result<OpenOne<F::File>>
+        ensures this { IfOk result (λ one. (one.kind ≡ kind) × (one.number ≡ number)) }
+        ensures open { IsTrue F.tells → IfOk result (IsOpen N.name F.name_of (F.past self.new.timed.folder)) }
+        ensures same { IsTrue F.tells → F.past self.new.timed.folder ≡ F.past self.old.timed.folder }
+        ensures rest { self.new ≡ record self.old {
+          timed = record self.old.timed { folder = self.new.timed.folder };
+          files = record self.old.files { replaced = self.new.files.replaced };
+        } }
+    {
+        let one = self.opened(kind, number, Access::Update)?;
+        self.checked(one)
+    }
+
+    /// A file that isn't another than the one that was left under its name.
+    fn checked(&mut self, one: OpenOne<F::File>) -> io::Result<OpenOne<F::File>>
+        ensures this { IfOk result (λ it. it ≡ one) }
+        ensures same { IsTrue F.tells → F.past self.new.timed.folder ≡ F.past self.old.timed.folder }
+        ensures rest { self.new ≡ record self.old {
+          timed = record self.old.timed { folder = self.new.timed.folder };
+          files = record self.old.files { replaced = self.new.files.replaced };
+        } }
+    {
+        match is_as_left(&mut self.timed.folder, &self.files.left, &one) {
+            Ok(true) => Ok(one),
+            Ok(false) => Err(self.note_replaced()),
+            Err(error) => Err(error),
+        }
     }
 
     /// Opens a file, and asks for its length. One that isn't known is another process's, or none. To be written none is opened once
@@ -85,8 +139,7 @@ impl<F: Folder, N: FileNames> Held<F, N> {
         open_one::<F, N>(&mut self.timed.folder, self.alloc, kind, number, access)
     }
 
-    /// Keeps a file that is still at its name. Where the folder was moved it may be put back; where another file is at the name, or
-    /// none, this process writes no more.
+    /// Keeps a file that is still at its name.
     pub(crate) fn keep_at_name(&mut self, one: OpenOne<F::File>) -> io::Result<()>
         requires others { IsTrue F.tells → AreHeld N.name F.name_of F.past self.old }
         requires open { IsTrue F.tells → IsOpen N.name F.name_of (F.past self.old.timed.folder) one }
@@ -94,22 +147,39 @@ impl<F: Folder, N: FileNames> Held<F, N> {
         ensures same { IsTrue F.tells → F.past self.new.timed.folder ≡ F.past self.old.timed.folder }
         ensures rest { self.new ≡ record self.old { timed = record self.old.timed { folder = self.new.timed.folder }; files = self.new.files } }
     {
-        match self.timed.folder.is_at_name(&one.file) {
+        match is_at_name(&mut self.timed.folder, &one.file) {
             Ok(true) => {
                 self.files.keep(one);
-                return Ok(());
+                Ok(())
             }
-            Ok(false) => {}
+            Ok(false) => {
+                self.files.leave(one);
+                Err(self.note_replaced())
+            }
             Err(error) => {
-                if error.kind() != ErrorKind::NotFound {
-                    return Err(error);
-                }
+                self.files.leave(one);
+                Err(error)
             }
         }
-        if self.timed.folder.is_in_place()? {
-            self.files.replaced = true;
+    }
+
+    /// Why a call of a file is refused that isn't at its name, or isn't as it was left. Where the folder was moved it may be put
+    /// back; where it is at its path, this process writes no more.
+    fn note_replaced(&mut self) -> io::Error
+        ensures same { IsTrue F.tells → F.past self.new.timed.folder ≡ F.past self.old.timed.folder }
+        ensures rest { self.new ≡ record self.old {
+          timed = record self.old.timed { folder = self.new.timed.folder };
+          files = record self.old.files { replaced = self.new.files.replaced };
+        } }
+    {
+        match self.timed.folder.is_in_place() {
+            Ok(true) => {
+                self.files.replaced = true;
+                moved()
+            }
+            Ok(false) => moved(),
+            Err(error) => error,
         }
-        Err(moved())
     }
 
     /// Whether the folder surely has no file of this number.

@@ -137,7 +137,13 @@ impl<F: Folder, N: FileNames> Held<F, N> {
             return Err(unknown());
         }
         let mut one = self.to_write(kind, file)?;
-        let end = end_of(at, bytes.len(), one.len)?;
+        let end = match end_of(at, bytes.len(), one.len) {
+            Ok(end) => end,
+            Err(error) => {
+                self.files.leave(one);
+                return Err(error);
+            }
+        };
         match write_whole(&mut self.timed.folder, &one.file, at, bytes) {
             Ok(()) => {
                 self.timed.go_on();
@@ -149,13 +155,13 @@ impl<F: Folder, N: FileNames> Held<F, N> {
             Err(WriteFault::Torn(error)) => {
                 self.timed.go_on();
                 self.trust.wrote(kind, file, at, bytes.len() as u64);
-                self.files.close();
+                self.files.close_torn(one, end);
                 Err(error)
             }
             Err(WriteFault::Stuck(error)) => {
                 self.timed.go_on();
                 self.trust.wrote_part(kind, file, at, bytes.len() as u64);
-                self.files.close();
+                self.files.close_torn(one, end);
                 Err(error)
             }
         }
@@ -177,7 +183,13 @@ impl<F: Folder, N: FileNames> Held<F, N> {
             return Err(unknown());
         }
         let mut one = self.to_write(kind, file)?;
-        inside(len, 0, one.len)?;
+        match inside(len, 0, one.len) {
+            Ok(()) => {}
+            Err(error) => {
+                self.files.leave(one);
+                return Err(error);
+            }
+        }
         match self.timed.folder.set_len(&one.file, len) {
             Ok(()) => {
                 self.timed.go_on();
@@ -189,7 +201,8 @@ impl<F: Folder, N: FileNames> Held<F, N> {
             Err(error) => {
                 self.timed.go_on();
                 self.trust.cut_part(kind, file);
-                self.files.close();
+                let most = one.len;
+                self.files.close_torn(one, most);
                 Err(error)
             }
         }
@@ -261,7 +274,7 @@ impl<F: Folder, N: FileNames> Held<F, N> {
         }
     }
 
-    /// Syncs the last file of a kind, so that it is known what is written to it from then on.
+    /// Syncs the last file of a kind, so that it is known what is written to it from then on, and which file it is.
     pub fn sync_last(&mut self, kind: Kind) -> io::Result<()>
         requires known { IsTrue F.tells → IsKnown N.name (state_of F.past self.old) }
         requires open { IsTrue F.tells → AreHeld N.name F.name_of F.past self.old }
@@ -271,8 +284,22 @@ impl<F: Folder, N: FileNames> Held<F, N> {
     {
         match self.known(kind).checked_sub(1) {
             None => Ok(()),
-            Some(last) => self.sync(kind, last),
+            Some(last) => self.sync_found(kind, last),
         }
+    }
+
+    /// Syncs a file, and leaves it as it was found.
+    fn sync_found(&mut self, kind: Kind, file: u32) -> io::Result<()>
+        requires known { IsTrue F.tells → IsKnown N.name (state_of F.past self.old) }
+        requires open { IsTrue F.tells → AreHeld N.name F.name_of F.past self.old }
+        requires there { IsTrue F.tells → file < file_count (reading N.name (state_of F.past self.old)) kind }
+        ensures known { IsTrue F.tells → IsKnown N.name (state_of F.past self.new) }
+        ensures open { IsTrue F.tells → AreHeld N.name F.name_of F.past self.new }
+        ensures same { IsTrue F.tells → reading N.name (state_of F.past self.new) ≡ reading N.name (state_of F.past self.old) }
+    {
+        self.sync(kind, file)?;
+        self.files.leave_found(kind, file);
+        Ok(())
     }
 
     /// Syncs a file that isn't in doubt.
@@ -286,7 +313,7 @@ impl<F: Folder, N: FileNames> Held<F, N> {
         ensures syncs { Syncs F.tells N.name kind file (state_of F.past self.old) (state_of F.past self.new) result }
         ensures open { IsTrue F.tells → AreHeld N.name F.name_of F.past self.new }
     {
-        let one = self.to_read(kind, file)?;
+        let one = self.to_sync(kind, file)?;
         match self.timed.folder.sync_file(&one.file) {
             Ok(()) => {
                 self.timed.go_on();
@@ -296,7 +323,8 @@ impl<F: Folder, N: FileNames> Held<F, N> {
             Err(error) => {
                 self.timed.go_on();
                 self.trust.failed(kind, file);
-                self.files.close();
+                let most = one.len;
+                self.files.close_torn(one, most);
                 Err(error)
             }
         }
@@ -322,7 +350,8 @@ impl<F: Folder, N: FileNames> Held<F, N> {
             }
             Err(error) => {
                 self.timed.go_on();
-                self.files.close();
+                let most = one.len;
+                self.files.close_torn(one, most);
                 Err(error)
             }
         }

@@ -80,7 +80,7 @@ pub fn whole(parts: &[&str]) -> Written {
 /// What finds no folder: calls 0 to 2.
 pub const NOT_FOUND: &str = "lock archive;is a link archive;may write .;";
 
-/// What opens a file again that a call that failed closed.
+/// What opens a file to write it. One that was left is looked for at its name then.
 pub const REOPENED: &str =
     "look for folder;open to write vol-000000.warc;length of vol-000000.warc;";
 

@@ -75,13 +75,21 @@ static FAILING: [Failing; 16] = [
     (8, &["sync vol-000000.warc;list names;3"]),
     (9, &["sync folder;3"]),
     (10, &["sync around;list names;3"]),
-    (11, &["look for vol-000000.warc;", REOPENED, STORED]),
+    (
+        11,
+        &[
+            "look for vol-000000.warc;",
+            REOPENED,
+            "look for vol-000000.warc;",
+            STORED,
+        ],
+    ),
     (
         12,
         &[
             LENGTH,
             "look for folder;open to read vol-000000.warc;length of vol-000000.warc;",
-            "sync vol-000000.warc;look for vol-000000.warc;1",
+            "look for vol-000000.warc;sync vol-000000.warc;look for vol-000000.warc;1",
         ],
     ),
     (
@@ -89,7 +97,7 @@ static FAILING: [Failing; 16] = [
         &[
             ONE_WRITE,
             "look for folder;open to read vol-000000.warc;length of vol-000000.warc;",
-            "sync vol-000000.warc;look for vol-000000.warc;1",
+            "look for vol-000000.warc;sync vol-000000.warc;look for vol-000000.warc;1",
         ],
     ),
     (14, &["sync vol-000000.warc;1"]),

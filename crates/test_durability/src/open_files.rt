@@ -27,7 +27,7 @@ const THIRD_MADE: &str =
 
 /// What cuts the second of two volumes of one byte once more, in which nothing was written, and syncs it.
 const CUT_AGAIN: &str =
-    "look for folder;open to write vol-000001.warc;length of vol-000001.warc;write 0 at 0 of vol-000001.warc;cut to 1 vol-000001.warc;sync vol-000001.warc;";
+    "look for folder;open to write vol-000001.warc;length of vol-000001.warc;look for vol-000001.warc;write 0 at 0 of vol-000001.warc;cut to 1 vol-000001.warc;sync vol-000001.warc;";
 
 /// Two volumes of one byte.
 const ONE_BYTE: Plan = Plan {
@@ -58,7 +58,8 @@ static OPEN: [Row; 13] = [
         ],
         &[
             OPENED,
-            "look for folder;open to write vol-000001.warc;length of vol-000001.warc;write 3 at 0 of vol-000001.warc;sync vol-000001.warc;look for vol-000001.warc;sync vol-000001.warc;look for vol-000001.warc;",
+            "look for folder;open to write vol-000001.warc;length of vol-000001.warc;look for vol-000001.warc;write 3 at 0 of vol-000001.warc;",
+            "sync vol-000001.warc;look for vol-000001.warc;sync vol-000001.warc;look for vol-000001.warc;",
             READ,
             "read 2 at 1 of vol-000001.warc;length of vol-000001.warc;cut to 1 vol-000001.warc;",
             "1",
@@ -112,15 +113,16 @@ static OPEN: [Row; 13] = [
         Lock::Alone,
         &[FILES, CREATE, WRITE_2, SYNC_2, SYNC_2],
         &[
-            "sync vol-000002.warc;look for folder;open to write vol-000002.warc;length of vol-000002.warc;read 3 at 0 of vol-000002.warc;write 3 at 0 of vol-000002.warc;",
+            "sync vol-000002.warc;look for folder;open to write vol-000002.warc;length of vol-000002.warc;look for vol-000002.warc;",
+            "read 3 at 0 of vol-000002.warc;write 3 at 0 of vol-000002.warc;",
             "cut to 3 vol-000002.warc;sync vol-000002.warc;look for vol-000002.warc;1",
         ],
     ),
     // A cut behind which a sync failed is done again, however often that fails,
     (
         Plan {
-            from: 17,
-            fails: [(18, ErrorKind::StorageFull), (24, ErrorKind::StorageFull)],
+            from: 18,
+            fails: [(19, ErrorKind::StorageFull), (26, ErrorKind::StorageFull)],
             ..ONE_BYTE
         },
         Lock::Alone,
@@ -135,14 +137,14 @@ static OPEN: [Row; 13] = [
     // and not one that failed itself.
     (
         Plan {
-            from: 17,
-            fails: [(17, ErrorKind::Other), (21, ErrorKind::StorageFull)],
+            from: 18,
+            fails: [(18, ErrorKind::Other), (23, ErrorKind::StorageFull)],
             ..ONE_BYTE
         },
         Lock::Alone,
         &[FILES, CUT_1, SYNC_1, SYNC_1, FILES],
         &[
-            "cut to 1 vol-000001.warc;look for folder;open to read vol-000001.warc;length of vol-000001.warc;sync vol-000001.warc;",
+            "cut to 1 vol-000001.warc;look for folder;open to read vol-000001.warc;length of vol-000001.warc;look for vol-000001.warc;sync vol-000001.warc;",
             "4",
         ],
     ),

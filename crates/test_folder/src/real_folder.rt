@@ -80,6 +80,8 @@ fn plays<R: Abort>(abort: &R, rt: HostRuntime, disk: &mut RealDisk<SystemFolders
 
 const FIRST_PATH: &str = "archive/vol-000000.warc";
 
+const SECOND_PATH: &str = "archive/vol-000001.warc";
+
 const THIRD_PATH: &str = "archive/vol-000002.warc";
 
 /// What an empty folder takes.
@@ -193,6 +195,101 @@ static CHANGED: Scene = (
     "2;0;0;failed;failed;failed;failed;0;0;",
 );
 
+/// What is answered, each time of another process, where the second of two files is the one that was left, and where it isn't: what
+/// is there then is left alone. The file keeps what the row before has left of it.
+static LEFT: [Scene; 7] = [
+    // It is the same behind a call that failed, and behind a file that was made.
+    (
+        &[
+            Calls(Files(Warc)),
+            Calls(Write(Warc, 1, 0, b"second")),
+            Calls(Write(Warc, 1, 9, b"x")),
+            Calls(Create(Cdxj)),
+            Calls(Write(Warc, 1, 6, b"!")),
+            Calls(Sync(Warc, 1)),
+            Calls(Cut(Warc, 1, 6)),
+            Calls(Sync(Warc, 1)),
+            Holds(SECOND_PATH, "second"),
+        ],
+        "2;0;failed;1;0;0;0;0;0;",
+    ),
+    // Another one was put there before it was written for the first time,
+    (
+        &[
+            Calls(Files(Warc)),
+            Removes(SECOND_PATH),
+            Puts(SECOND_PATH, "theirs"),
+            Calls(Write(Warc, 1, 6, b"!")),
+            Calls(Cut(Warc, 1, 5)),
+            Calls(Create(Warc)),
+            Holds(SECOND_PATH, "theirs"),
+        ],
+        "2;0;0;failed;failed;failed;0;",
+    ),
+    // also behind reads,
+    (
+        &[
+            Calls(Files(Warc)),
+            Calls(Read(Warc, 1, 0, b"their")),
+            Calls(Read(Warc, 0, 0, b"hello")),
+            Removes(SECOND_PATH),
+            Puts(SECOND_PATH, "second"),
+            Calls(Write(Warc, 1, 6, b"!")),
+            Holds(SECOND_PATH, "second"),
+        ],
+        "2;0;0;0;0;failed;0;",
+    ),
+    // or it was made longer.
+    (
+        &[
+            Calls(Files(Warc)),
+            Puts(SECOND_PATH, "second, and later ones"),
+            Calls(Write(Warc, 1, 6, b"!")),
+            Holds(SECOND_PATH, "second, and later ones"),
+        ],
+        "2;0;failed;0;",
+    ),
+    // Another one was put there behind a write that failed,
+    (
+        &[
+            Calls(Files(Warc)),
+            Calls(Write(Warc, 1, 0, b"second")),
+            Calls(Write(Warc, 1, 30, b"x")),
+            Removes(SECOND_PATH),
+            Puts(SECOND_PATH, "second, and later ones"),
+            Calls(Write(Warc, 1, 22, b"!")),
+            Holds(SECOND_PATH, "second, and later ones"),
+        ],
+        "2;0;failed;0;0;failed;0;",
+    ),
+    // behind a read that failed,
+    (
+        &[
+            Calls(Files(Warc)),
+            Calls(Write(Warc, 1, 0, b"second")),
+            Calls(Read(Warc, 1, 20, b"12345")),
+            Removes(SECOND_PATH),
+            Puts(SECOND_PATH, "second, and later ones"),
+            Calls(Write(Warc, 1, 22, b"!")),
+            Holds(SECOND_PATH, "second, and later ones"),
+        ],
+        "2;0;failed;0;0;failed;0;",
+    ),
+    // and behind a file that was made.
+    (
+        &[
+            Calls(Files(Warc)),
+            Calls(Write(Warc, 1, 0, b"second")),
+            Calls(Create(Cdxj)),
+            Removes(SECOND_PATH),
+            Puts(SECOND_PATH, "second, and later ones"),
+            Calls(Write(Warc, 1, 22, b"!")),
+            Holds(SECOND_PATH, "second, and later ones"),
+        ],
+        "2;0;2;0;0;failed;0;",
+    ),
+];
+
 /// What is answered where a file was put there by hand.
 static PUT: Scene = (
     &[
@@ -222,6 +319,13 @@ fn disk_as(rt: HostRuntime, lock: Lock) -> RealDisk<SystemFolders> {
     RealDisk::new(rt.folders(), rt.alloc(), lock)
 }
 
+/// Asserts that the steps of each scene answer so, where a process has the folder for each.
+fn play_each<R: Abort>(abort: &R, rt: HostRuntime, scenes: &[Scene]) {
+    for scene in scenes {
+        plays(abort, rt, &mut disk_as(rt, Lock::Alone), scene);
+    }
+}
+
 /// What one process after the other finds, and what one is answered whose folder is removed.
 fn keeps_numbered_files<R: Abort>(abort: &R, rt: HostRuntime) {
     let mut disk = disk_as(rt, Lock::Alone);
@@ -248,6 +352,7 @@ fn touches_no_file_of_another<R: Abort>(abort: &R, rt: HostRuntime) {
     drop(other);
     plays(abort, rt, &mut waiting, &LATE);
     plays(abort, rt, &mut disk_as(rt, Lock::Alone), &CHANGED);
+    play_each(abort, rt, &LEFT);
     plays(abort, rt, &mut disk_as(rt, Lock::Alone), &PUT);
 }
 

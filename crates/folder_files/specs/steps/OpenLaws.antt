@@ -224,12 +224,18 @@ remembered name name_of past before bytes kind file one its_kind its_number same
 
 -- one more is kept, as the call says it
 pub kept_after : {T : Type 0} (name : Kind → ℕ → List ℕ) (name_of : T → List ℕ) (past : FolderPast) (files new : OpenFiles T) (one : OpenOne T)
-    → new ≡ kept one files → AreOpen name name_of past files → IsOpen name name_of past one → AreOpen name name_of past new
+    → new ≡ record (kept one files) { left = new.left } → AreOpen name name_of past files → IsOpen name name_of past one → AreOpen name name_of past new
 kept_after {T} name name_of past files new one whole are is =
     subst (λ (fs : OpenFiles T). AreOpen name name_of past fs) (sym whole) (kept_open name name_of past files one are is)
 
--- a file is kept behind a call that was done, and else closed
+-- a file was left
+pub left_after : {T : Type 0} (name : Kind → ℕ → List ℕ) (name_of : T → List ℕ) (past : FolderPast) (files new : OpenFiles T)
+    → new ≡ record files { left = new.left } → AreOpen name name_of past files → AreOpen name name_of past new
+left_after {T} name name_of past files new whole are = subst (λ (fs : OpenFiles T). AreOpen name name_of past fs) (sym whole) are
+
+-- a file is kept behind a call that was done, and else left
 pub kept_behind : {T E : Type 0} (name : Kind → ℕ → List ℕ) (name_of : T → List ℕ) (past : FolderPast) (files new : OpenFiles T) (one : OpenOne T) (done : Result ⊤ E)
-    → OnOk done (new ≡ kept one files) → OnErr done (new ≡ files) → AreOpen name name_of past files → IsOpen name name_of past one → AreOpen name name_of past new
-kept_behind name name_of past files new one (Ok x) whole closed are is = kept_after name name_of past files new one whole are is
-kept_behind {T} name name_of past files new one (Err e) whole closed are is = subst (λ (fs : OpenFiles T). AreOpen name name_of past fs) (sym closed) are
+    → OnOk done (new ≡ record (kept one files) { left = new.left }) → OnErr done (new ≡ record files { left = new.left })
+    → AreOpen name name_of past files → IsOpen name name_of past one → AreOpen name name_of past new
+kept_behind name name_of past files new one (Ok x) whole left are is = kept_after name name_of past files new one whole are is
+kept_behind name name_of past files new one (Err e) whole left are is = left_after name name_of past files new left are

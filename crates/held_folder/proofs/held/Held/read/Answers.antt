@@ -59,6 +59,6 @@ returns-clause-open g c = λ told.
     let mid : FolderPast = g.F.Folder.past c.to_read.new.self.timed.folder in
     let last : FolderPast = g.F.Folder.past c.read_open-done.new.folder in
     let same = same_contents mid last (c.read_open-done.ensures.past told) in
-    kept_behind name name_of last c.to_read.new.self.files c.keep_after.new.self c.in_ok-one.one c.read_open-done.result c.keep_after.ensures.kept c.keep_after.ensures.closed
+    kept_behind name name_of last c.to_read.new.self.files c.keep_after.new.self c.in_ok-one.one c.read_open-done.result c.keep_after.ensures.kept c.keep_after.ensures.left
     (all_same name name_of mid last c.to_read.new.self.files same (c.to_read.ensures.others told))
     (one_same name name_of mid last c.in_ok-one.one same (c.in_ok-one.ensures.open told))

@@ -164,4 +164,4 @@ returns-in-Err-clause-syncs g c =
 
 pub returns-in-Err-clause-open : goal.returns-in-Err-clause-open
 returns-in-Err-clause-open g c = λ told.
-    none_open g.N.FileNames.name g.F.Folder.name_of (g.F.Folder.past c.go_on-in-Err.new.self.folder) c.close.new.self c.close.ensures.written c.close.ensures.read
+    none_open g.N.FileNames.name g.F.Folder.name_of (g.F.Folder.past c.go_on-in-Err.new.self.folder) c.close_torn.new.self c.close_torn.ensures.written c.close_torn.ensures.read

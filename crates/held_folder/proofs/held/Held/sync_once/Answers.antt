@@ -23,13 +23,13 @@ returns-in_err-one-clause-syncs g c =
     let name_of = g.F.Folder.name_of in
     let past_of = g.F.Folder.past in
     let old : State = state_of past_of c.args.self.now in
-    let rest = c.to_read.ensures.rest in
-    let past : FolderPast = past_of c.to_read.new.self.timed.folder in
-    let went : state_of past_of c.to_read.new.self ≡ record old { past = past } = λ i. record (state_of past_of (rest i)) { past = past } in
+    let rest = c.to_sync.ensures.rest in
+    let past : FolderPast = past_of c.to_sync.new.self.timed.folder in
+    let went : state_of past_of c.to_sync.new.self ≡ record old { past = past } = λ i. record (state_of past_of (rest i)) { past = past } in
     subst (λ (s : State). Syncs {E = Error} tells name c.args.kind c.args.file old s c.from_residual.result) (sym went)
     (at_error (λ r. Syncs {E = Error} tells name c.args.kind c.args.file old (record old { past = past }) r)
     c.from_residual.result c.from_residual.ensures.0
-    (λ e. sync_not_begun {E = Error} tells name c.args.kind c.args.file old (record old { past = past }) e (λ told i. record old { past = c.to_read.ensures.same told i }) refl c.requires.known))
+    (λ e. sync_not_begun {E = Error} tells name c.args.kind c.args.file old (record old { past = past }) e (λ told i. record old { past = c.to_sync.ensures.same told i }) refl c.requires.known))
 
 pub keep_at_name-requires-clause-others : goal.keep_at_name-requires-clause-others
 keep_at_name-requires-clause-others g c = λ told.
@@ -38,15 +38,15 @@ keep_at_name-requires-clause-others g c = λ told.
     let name_of = g.F.Folder.name_of in
     let past_of = g.F.Folder.past in
     let old : State = state_of past_of c.args.self.now in
-    let rest = c.to_read.ensures.rest in
+    let rest = c.to_sync.ensures.rest in
     let past : FolderPast = past_of c.sync_file.new.self in
-    let before : FolderPast = past_of c.to_read.new.self.timed.folder in
+    let before : FolderPast = past_of c.to_sync.new.self.timed.folder in
     let is = c.in_ok-one.ensures.this in
     let named : (told : IsTrue tells) → name_of c.in_ok-one.one.file ≡ name c.args.kind c.args.file =
     λ told. open_named name name_of c.args.kind c.args.file c.in_ok-one.one is.0 is.1 before (c.in_ok-one.ensures.open told) in
-    subst (λ (p : FolderPast). AreOpen name name_of p c.to_read.new.self.files) (λ i. past_of (sym c.go_on.ensures.folder i))
-    (all_same name name_of before past c.to_read.new.self.files
-    (sync_all_same (name_of c.in_ok-one.one.file) true before past (c.in-Ok.ensures told)) (c.to_read.ensures.others told))
+    subst (λ (p : FolderPast). AreOpen name name_of p c.to_sync.new.self.files) (λ i. past_of (sym c.go_on.ensures.folder i))
+    (all_same name name_of before past c.to_sync.new.self.files
+    (sync_all_same (name_of c.in_ok-one.one.file) true before past (c.in-Ok.ensures told)) (c.to_sync.ensures.others told))
 
 pub keep_at_name-requires-clause-open : goal.keep_at_name-requires-clause-open
 keep_at_name-requires-clause-open g c = λ told.
@@ -55,9 +55,9 @@ keep_at_name-requires-clause-open g c = λ told.
     let name_of = g.F.Folder.name_of in
     let past_of = g.F.Folder.past in
     let old : State = state_of past_of c.args.self.now in
-    let rest = c.to_read.ensures.rest in
+    let rest = c.to_sync.ensures.rest in
     let past : FolderPast = past_of c.sync_file.new.self in
-    let before : FolderPast = past_of c.to_read.new.self.timed.folder in
+    let before : FolderPast = past_of c.to_sync.new.self.timed.folder in
     let is = c.in_ok-one.ensures.this in
     let named : (told : IsTrue tells) → name_of c.in_ok-one.one.file ≡ name c.args.kind c.args.file =
     λ told. open_named name name_of c.args.kind c.args.file c.in_ok-one.one is.0 is.1 before (c.in_ok-one.ensures.open told) in
@@ -72,8 +72,8 @@ returns-in-Ok-clause-syncs g c =
     let name_of = g.F.Folder.name_of in
     let past_of = g.F.Folder.past in
     let old : State = state_of past_of c.args.self.now in
-    let rest = c.to_read.ensures.rest in
-    let before : FolderPast = past_of c.to_read.new.self.timed.folder in
+    let rest = c.to_sync.ensures.rest in
+    let before : FolderPast = past_of c.to_sync.new.self.timed.folder in
     let past : FolderPast = past_of c.sync_file.new.self in
     let is = c.in_ok-one.ensures.this in
     let named : (told : IsTrue tells) → name_of c.in_ok-one.one.file ≡ name c.args.kind c.args.file =
@@ -81,7 +81,7 @@ returns-in-Ok-clause-syncs g c =
     let trust : Trust = c.synced.new.self in
     let on : SyncedTo c.args.kind c.args.file old.trust trust = subst (λ (t : Trust). SyncedTo c.args.kind c.args.file t trust) (λ i. (rest i).trust) c.synced.ensures in
     let times : times_of c.go_on.new.self ≡ goes_on old.times past = c.go_on.ensures.times ∙ (λ i. goes_on (times_of (rest i).timed) past) in
-    let went : record { past = past_of c.go_on.new.self.folder; warc = c.to_read.new.self.warc; cdxj = c.to_read.new.self.cdxj; trust = trust; times = times_of c.go_on.new.self }
+    let went : record { past = past_of c.go_on.new.self.folder; warc = c.to_sync.new.self.warc; cdxj = c.to_sync.new.self.cdxj; trust = trust; times = times_of c.go_on.new.self }
     ≡ trusted trust (next old past) =
     λ i. record {
       past = past_of (c.go_on.ensures.folder i);
@@ -98,7 +98,7 @@ returns-in-Ok-clause-syncs g c =
     (λ told. c.keep_at_name.ensures.same told ∙ (λ i. past_of (c.go_on.ensures.folder i)))
     (sync_answered {E = Error} tells name c.args.kind c.args.file old (trusted trust (next old past)) c.keep_at_name.result
     (sure_done tells name g.met.N.FileNames.apart c.args.kind c.args.file c.ranges.file.fits old past c.requires.known c.requires.ours c.requires.going {E = Error} trust c.requires.sure on
-    (λ told. c.in-Ok.ensures told ∙ (λ i. did_to (c.to_read.ensures.same told i) (named told i) (Synced true))))))
+    (λ told. c.in-Ok.ensures told ∙ (λ i. did_to (c.to_sync.ensures.same told i) (named told i) (Synced true))))))
 
 pub returns-in-Err-clause-syncs : goal.returns-in-Err-clause-syncs
 returns-in-Err-clause-syncs g c =
@@ -107,8 +107,8 @@ returns-in-Err-clause-syncs g c =
     let name_of = g.F.Folder.name_of in
     let past_of = g.F.Folder.past in
     let old : State = state_of past_of c.args.self.now in
-    let rest = c.to_read.ensures.rest in
-    let before : FolderPast = past_of c.to_read.new.self.timed.folder in
+    let rest = c.to_sync.ensures.rest in
+    let before : FolderPast = past_of c.to_sync.new.self.timed.folder in
     let past : FolderPast = past_of c.sync_file.new.self in
     let is = c.in_ok-one.ensures.this in
     let named : (told : IsTrue tells) → name_of c.in_ok-one.one.file ≡ name c.args.kind c.args.file =
@@ -116,7 +116,7 @@ returns-in-Err-clause-syncs g c =
     let trust : Trust = c.failed.new.self in
     let on : AfterFailure c.args.kind c.args.file old.trust trust = subst (λ (t : Trust). AfterFailure c.args.kind c.args.file t trust) (λ i. (rest i).trust) c.failed.ensures in
     let times : times_of c.go_on-in-Err.new.self ≡ goes_on old.times past = c.go_on-in-Err.ensures.times ∙ (λ i. goes_on (times_of (rest i).timed) past) in
-    let went : record { past = past_of c.go_on-in-Err.new.self.folder; warc = c.to_read.new.self.warc; cdxj = c.to_read.new.self.cdxj; trust = trust; times = times_of c.go_on-in-Err.new.self }
+    let went : record { past = past_of c.go_on-in-Err.new.self.folder; warc = c.to_sync.new.self.warc; cdxj = c.to_sync.new.self.cdxj; trust = trust; times = times_of c.go_on-in-Err.new.self }
     ≡ trusted trust (next old past) =
     λ i. record {
       past = past_of (c.go_on-in-Err.ensures.folder i);
@@ -127,8 +127,8 @@ returns-in-Err-clause-syncs g c =
     } in
     subst (λ (s : State). Syncs {E = Error} tells name c.args.kind c.args.file old s (Err c.in-Err.error)) (sym went)
     (sure_missed tells name g.met.N.FileNames.apart c.args.kind c.args.file c.ranges.file.fits old past c.requires.known c.requires.ours c.requires.going {E = Error} trust c.in-Err.error on
-    (λ told. c.in-Err.ensures told ∙ (λ i. did_to (c.to_read.ensures.same told i) (named told i) (Synced false))))
+    (λ told. c.in-Err.ensures told ∙ (λ i. did_to (c.to_sync.ensures.same told i) (named told i) (Synced false))))
 
 pub returns-in-Err-clause-open : goal.returns-in-Err-clause-open
 returns-in-Err-clause-open g c = λ told.
-    none_open g.N.FileNames.name g.F.Folder.name_of (g.F.Folder.past c.go_on-in-Err.new.self.folder) c.close.new.self c.close.ensures.written c.close.ensures.read
+    none_open g.N.FileNames.name g.F.Folder.name_of (g.F.Folder.past c.go_on-in-Err.new.self.folder) c.close_torn.new.self c.close_torn.ensures.written c.close_torn.ensures.read

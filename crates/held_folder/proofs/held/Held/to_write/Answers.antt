@@ -36,12 +36,12 @@ returns-in-Some-clause-apart g c =
 
 pub returns-in-None-clause-others : goal.returns-in-None-clause-others
 returns-in-None-clause-others g c = λ told.
-    subst (λ (p : FolderPast). AreOpen g.N.FileNames.name g.F.Folder.name_of p c.opened.new.self.files) (sym (c.opened.ensures.same told))
-    (subst (λ fs. AreOpen g.N.FileNames.name g.F.Folder.name_of (g.F.Folder.past c.args.self.now.timed.folder) fs) (λ i. (sym c.opened.ensures.rest i).files)
+    subst (λ (p : FolderPast). AreOpen g.N.FileNames.name g.F.Folder.name_of p c.opened_as_left.new.self.files) (sym (c.opened_as_left.ensures.same told))
+    (subst (λ fs. AreOpen g.N.FileNames.name g.F.Folder.name_of (g.F.Folder.past c.args.self.now.timed.folder) fs) (λ i. (sym c.opened_as_left.ensures.rest i).files)
     (taken_open g.N.FileNames.name g.F.Folder.name_of (g.F.Folder.past c.args.self.now.timed.folder) c.args.kind c.args.number c.args.self.now.files c.take_for_writing.new.self (c.requires told)
     c.take_for_writing.ensures.written c.take_for_writing.ensures.read))
 
 pub returns-in-None-clause-apart : goal.returns-in-None-clause-apart
 returns-in-None-clause-apart g c =
-    subst (λ fs. AreOthers c.args.kind c.args.number fs) (λ i. (sym c.opened.ensures.rest i).files)
+    subst (λ fs. AreOthers c.args.kind c.args.number fs) (λ i. (sym c.opened_as_left.ensures.rest i).files)
     (taken_apart c.args.kind c.args.number c.args.self.now.files c.take_for_writing.new.self c.take_for_writing.ensures.written c.take_for_writing.ensures.read)

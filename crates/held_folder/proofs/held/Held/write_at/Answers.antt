@@ -10,7 +10,7 @@ use Rattle.held_folder.specs.Calls.{WritesAt}
 use Rattle.held_folder.specs.Held.{state_of}
 use Rattle.folder_files.specs.OpenFiles.{AreOpen}
 use Rattle.held_folder.specs.State.{State, next, trusted}
-use Rattle.folder_files.specs.steps.OpenLaws.{open_named, others_same, writes_others, wrote_open, kept_after, none_open}
+use Rattle.folder_files.specs.steps.OpenLaws.{open_named, others_same, writes_others, wrote_open, kept_after, left_after, none_open}
 use Rattle.held_folder.specs.steps.StateLaws.{wrote, write_not_begun, at_error}
 use Rattle.held_folder.specs.steps.SureLaws.{whole_goes, part_goes}
 use Rattle.held_folder.specs.Doubts.{AfterWhole, AfterPart, GoesOn}
@@ -31,8 +31,8 @@ returns-in_err-one-clause-writes g c =
     c.from_residual.result c.from_residual.ensures.0
     (λ e. write_not_begun {E = Error} tells name c.args.kind c.args.file c.args.at c.args.bytes.now old now e same (λ i. times_of (all i).timed) c.requires.known)
 
-pub returns-in_err-end-clause-writes : goal.returns-in_err-end-clause-writes
-returns-in_err-end-clause-writes g c =
+pub returns-in-Err-clause-writes : goal.returns-in-Err-clause-writes
+returns-in-Err-clause-writes g c =
     let tells = g.F.Folder.tells in
     let name = g.N.FileNames.name in
     let past_of = g.F.Folder.past in
@@ -40,12 +40,14 @@ returns-in_err-end-clause-writes g c =
     let rest = c.in_ok-one.ensures.rest in
     let now : State = state_of past_of c.to_write.new.self in
     let same : IsTrue tells → now ≡ old = λ told. (λ i. state_of past_of (rest i)) ∙ (λ i. record old { past = c.to_write.ensures.same told i }) in
-    at_error (λ r. WritesAt {E = Error} tells name c.args.kind c.args.file c.args.at c.args.bytes.now old now r)
-    c.from_residual-in_err-end.result c.from_residual-in_err-end.ensures.0
-    (λ e. write_not_begun {E = Error} tells name c.args.kind c.args.file c.args.at c.args.bytes.now old now e same (λ i. times_of (rest i).timed) c.requires.known)
+    write_not_begun {E = Error} tells name c.args.kind c.args.file c.args.at c.args.bytes.now old now c.in-Err.error same (λ i. times_of (rest i).timed) c.requires.known
 
-pub returns-in-Ok-clause-writes : goal.returns-in-Ok-clause-writes
-returns-in-Ok-clause-writes g c =
+pub returns-in-Err-clause-open : goal.returns-in-Err-clause-open
+returns-in-Err-clause-open g c = λ told.
+    left_after g.N.FileNames.name g.F.Folder.name_of (g.F.Folder.past c.to_write.new.self.timed.folder) c.to_write.new.self.files c.leave.new.self c.leave.ensures (c.to_write.ensures.others told)
+
+pub returns-in-Ok-write_whole-clause-writes : goal.returns-in-Ok-write_whole-clause-writes
+returns-in-Ok-write_whole-clause-writes g c =
     let tells = g.F.Folder.tells in
     let name = g.N.FileNames.name in
     let name_of = g.F.Folder.name_of in
@@ -74,7 +76,7 @@ returns-in-Ok-clause-writes g c =
     } in
     let covers : IsTrue tells → Covers (name c.args.kind c.args.file) c.args.at len old.past past =
     λ told. subst (λ (p : FolderPast). Covers (name c.args.kind c.args.file) c.args.at len p past) (c.to_write.ensures.same told)
-    (subst (λ (n : List ℕ). Covers n c.args.at len before past) (named told) ((c.in-Ok.ensures.written told).covers)) in
+    (subst (λ (n : List ℕ). Covers n c.args.at len before past) (named told) ((c.in-Ok-write_whole.ensures.written told).covers)) in
     let on : GoesOn c.args.kind (AfterWhole c.args.file c.args.at len) old.trust trust =
     subst (λ (t : Trust). GoesOn c.args.kind (AfterWhole c.args.file c.args.at len) t trust) (λ i. (rest i).trust) c.wrote.ensures in
     subst (λ (s : State). WritesAt {E = Error} tells name c.args.kind c.args.file c.args.at c.args.bytes.now old s (Ok tt)) (sym went)
@@ -84,7 +86,7 @@ returns-in-Ok-clause-writes g c =
     (c.requires.there told) (c.requires.in_range told) (within told) (covers told) on)
     (Ok tt)
     (λ told. subst (λ (p : FolderPast). IsWriting (name c.args.kind c.args.file) c.args.at c.args.bytes.now len p past) (c.to_write.ensures.same told)
-    (subst (λ (n : List ℕ). IsWriting n c.args.at c.args.bytes.now len before past) (named told) (c.in-Ok.ensures.written told))))
+    (subst (λ (n : List ℕ). IsWriting n c.args.at c.args.bytes.now len before past) (named told) (c.in-Ok-write_whole.ensures.written told))))
 
 pub returns-in-Err-Torn-clause-writes : goal.returns-in-Err-Torn-clause-writes
 returns-in-Err-Torn-clause-writes g c =
@@ -128,8 +130,8 @@ returns-in-Err-Torn-clause-writes g c =
     (Err c.in-Err-Torn.error)
     (λ told. tt))
 
-pub returns-clause-writes : goal.returns-clause-writes
-returns-clause-writes g c =
+pub returns-in-Err-Stuck-clause-writes : goal.returns-in-Err-Stuck-clause-writes
+returns-in-Err-Stuck-clause-writes g c =
     let tells = g.F.Folder.tells in
     let name = g.N.FileNames.name in
     let name_of = g.F.Folder.name_of in
@@ -165,8 +167,8 @@ returns-clause-writes g c =
     (Err c.in-Err-Stuck.error)
     (λ told. tt))
 
-pub returns-in-Ok-clause-open : goal.returns-in-Ok-clause-open
-returns-in-Ok-clause-open g c = λ told.
+pub returns-in-Ok-write_whole-clause-open : goal.returns-in-Ok-write_whole-clause-open
+returns-in-Ok-write_whole-clause-open g c = λ told.
     let name = g.N.FileNames.name in
     let name_of = g.F.Folder.name_of in
     let past_of = g.F.Folder.past in
@@ -176,21 +178,21 @@ returns-in-Ok-clause-open g c = λ told.
     let named : name_of c.in_ok-one.one.file ≡ name c.args.kind c.args.file =
     open_named name name_of c.args.kind c.args.file c.in_ok-one.one is.0 is.1 before (c.in_ok-one.ensures.open told) in
     let writing : IsWriting (name c.args.kind c.args.file) c.args.at c.args.bytes.now (length c.args.bytes.now) before past =
-    subst (λ (n : List ℕ). IsWriting n c.args.at c.args.bytes.now (length c.args.bytes.now) before past) named (c.in-Ok.ensures.written told) in
+    subst (λ (n : List ℕ). IsWriting n c.args.at c.args.bytes.now (length c.args.bytes.now) before past) named (c.in-Ok-write_whole.ensures.written told) in
     let others = others_same name name_of g.met.N.FileNames.apart c.args.kind c.args.file c.ranges.file.fits before past c.to_write.new.self.files
     (writes_others (name c.args.kind c.args.file) c.args.at (length c.args.bytes.now) before past writing.within) c.to_write.ensures.apart (c.to_write.ensures.others told) in
-    let one = wrote_open name name_of c.args.kind c.args.file c.in_ok-one.one is.0 is.1 c.args.at c.in_ok-end.end c.args.bytes.now before past c.ranges.file.fits
-    (c.in_ok-one.ensures.open told) writing c.in_ok-end.ensures.inside c.in_ok-end.ensures.end in
+    let one = wrote_open name name_of c.args.kind c.args.file c.in_ok-one.one is.0 is.1 c.args.at c.in-Ok.end c.args.bytes.now before past c.ranges.file.fits
+    (c.in_ok-one.ensures.open told) writing c.in-Ok.ensures.inside c.in-Ok.ensures.end in
     subst (λ (p : FolderPast). AreOpen name name_of p c.keep.new.self) (λ i. past_of (sym c.go_on.ensures.folder i))
     (kept_after name name_of past c.to_write.new.self.files c.keep.new.self _ c.keep.ensures others one)
 
 pub returns-in-Err-Torn-clause-open : goal.returns-in-Err-Torn-clause-open
 returns-in-Err-Torn-clause-open g c = λ told.
-    none_open g.N.FileNames.name g.F.Folder.name_of (g.F.Folder.past c.go_on-in-Err-Torn.new.self.folder) c.close.new.self c.close.ensures.written c.close.ensures.read
+    none_open g.N.FileNames.name g.F.Folder.name_of (g.F.Folder.past c.go_on-in-Err-Torn.new.self.folder) c.close_torn.new.self c.close_torn.ensures.written c.close_torn.ensures.read
 
-pub returns-clause-open : goal.returns-clause-open
-returns-clause-open g c = λ told.
-    none_open g.N.FileNames.name g.F.Folder.name_of (g.F.Folder.past c.go_on-in-Err-Stuck.new.self.folder) c.close-in-Err-Stuck.new.self c.close-in-Err-Stuck.ensures.written c.close-in-Err-Stuck.ensures.read
+pub returns-in-Err-Stuck-clause-open : goal.returns-in-Err-Stuck-clause-open
+returns-in-Err-Stuck-clause-open g c = λ told.
+    none_open g.N.FileNames.name g.F.Folder.name_of (g.F.Folder.past c.go_on-in-Err-Stuck.new.self.folder) c.close_torn-in-Err-Stuck.new.self c.close_torn-in-Err-Stuck.ensures.written c.close_torn-in-Err-Stuck.ensures.read
 
 pub returns-then-is_unknown-clause-writes : goal.returns-then-is_unknown-clause-writes
 returns-then-is_unknown-clause-writes g c =
