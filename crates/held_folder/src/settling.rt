@@ -12,7 +12,7 @@ use crate::held::Held;
 use crate::reasons::{is_there_already, stopped};
 use crate::trust::Further;
 use disk_model::Kind;
-use folder_files::{FileNames, no_further_number, open_empty};
+use folder_files::{FileNames, OpenOne, no_further_number, open_empty};
 use folder_model::{Folder, MakeFault, settle_durably};
 use std::io;
 use std::io::ErrorKind;
@@ -65,7 +65,7 @@ impl<F: Folder, N: FileNames> Held<F, N> {
         }
     }
 
-    /// Looks for the file in the folder's list.
+    /// Looks for the file in the folder's list. One that is there is left, as none other is to be taken for it.
     fn seek(&mut self, kind: Kind) -> io::Result<()>
         requires known { IsTrue F.tells → IsKnown N.name (state_of F.past self.old) }
         requires going { self.old.trust.gave_up ≡ false }
@@ -81,7 +81,17 @@ impl<F: Folder, N: FileNames> Held<F, N> {
             return Ok(());
         }
         match open_empty::<F, N>(&mut self.timed.folder, self.alloc, kind, number) {
-            Ok(file) => self.take_in(kind, number, &file),
+            Ok(file) => {
+                let done = self.take_in(kind, number, &file);
+                self.files.leave(OpenOne {
+                    kind,
+                    number,
+                    file,
+                    len: 0,
+                    for_writing: true,
+                });
+                done
+            }
             Err(error) => Err(error),
         }
     }

@@ -115,7 +115,13 @@ static SOUGHT: [Row; 5] = [
         },
         Lock::Alone,
         &[FILES, CREATE, FILES, WRITE_0, SYNC_0],
-        &["sync vol-000000.warc;list names;", FOUND, REOPENED, STORED],
+        &[
+            "sync vol-000000.warc;list names;",
+            FOUND,
+            REOPENED,
+            "look for vol-000000.warc;",
+            STORED,
+        ],
     ),
     // That of the folder around it did.
     (
@@ -126,7 +132,13 @@ static SOUGHT: [Row; 5] = [
         },
         Lock::Alone,
         &[FILES, CREATE, FILES, WRITE_0, SYNC_0],
-        &["sync around;list names;", FOUND, REOPENED, STORED],
+        &[
+            "sync around;list names;",
+            FOUND,
+            REOPENED,
+            "look for vol-000000.warc;",
+            STORED,
+        ],
     ),
     // Neither it nor the folder's list could be opened: none is made before the list tells that it isn't there.
     (

@@ -11,7 +11,7 @@ use Rattle.held_folder.specs.State.{State, IsKnown}
 use Rattle.held_folder.specs.declared.trust.Further.TheVariants.{Absent}
 use Rattle.held_folder.specs.declared.trust.Trust.{Trust}
 use Rattle.held_folder.specs.steps.FurtherLaws.{further_with}
-use Rattle.folder_files.specs.steps.OpenLaws.{none_open}
+use Rattle.folder_files.specs.steps.OpenLaws.{none_open, left_after}
 use Rattle.held_folder.specs.steps.SettleLaws.{found_none}
 use Rattle.held_folder.specs.steps.StateLaws.{looked, looks_before}
 use Rattle.held_folder.proofs.held.Held.seek.Goals as goal
@@ -40,8 +40,8 @@ returns-then-lacks-clause-open g c = λ told.
     none_open g.N.FileNames.name g.F.Folder.name_of (g.F.Folder.past c.lacks.new.self.timed.folder) c.lacks.new.self.files
     ((λ i. (c.lacks.ensures.rest i).files.written) ∙ c.close.ensures.written) ((λ i. (c.lacks.ensures.rest i).files.read) ∙ c.close.ensures.read)
 
-pub take_in-requires-clause-known : goal.take_in-requires-clause-known
-take_in-requires-clause-known g c = λ told.
+pub take_in-done-requires-clause-known : goal.take_in-done-requires-clause-known
+take_in-done-requires-clause-known g c = λ told.
     let name = g.N.FileNames.name in
     let past_of = g.F.Folder.past in
     let old : State = state_of past_of c.args.self.now in
@@ -50,23 +50,23 @@ take_in-requires-clause-known g c = λ told.
     subst (IsKnown name) (sym went)
     (subst (λ (p : FolderPast). IsKnown name (record old { past = p })) (sym (c.open_empty.ensures.same told ∙ c.lacks.ensures.same told)) (c.requires.known told))
 
-pub take_in-requires-clause-going : goal.take_in-requires-clause-going
-take_in-requires-clause-going g c = (λ i. (c.lacks.ensures.rest i).trust.gave_up) ∙ c.requires.going
+pub take_in-done-requires-clause-going : goal.take_in-done-requires-clause-going
+take_in-done-requires-clause-going g c = (λ i. (c.lacks.ensures.rest i).trust.gave_up) ∙ c.requires.going
 
-pub take_in-requires-clause-unsettled : goal.take_in-requires-clause-unsettled
-take_in-requires-clause-unsettled g c =
+pub take_in-done-requires-clause-unsettled : goal.take_in-done-requires-clause-unsettled
+take_in-done-requires-clause-unsettled g c =
     (λ i. further_of (c.lacks.ensures.rest i).trust c.args.kind) ∙ c.requires.unsettled
 
-pub take_in-requires-clause-number : goal.take_in-requires-clause-number
-take_in-requires-clause-number g c =
+pub take_in-done-requires-clause-number : goal.take_in-done-requires-clause-number
+take_in-done-requires-clause-number g c =
     c.known-number.ensures
     ∙ (λ i. known_of (sym c.lacks.ensures.rest i).warc (sym c.lacks.ensures.rest i).cdxj c.args.kind)
 
-pub take_in-requires-clause-written : goal.take_in-requires-clause-written
-take_in-requires-clause-written g c = (λ i. (c.lacks.ensures.rest i).files.written) ∙ c.close.ensures.written
+pub take_in-done-requires-clause-written : goal.take_in-done-requires-clause-written
+take_in-done-requires-clause-written g c = (λ i. (c.lacks.ensures.rest i).files.written) ∙ c.close.ensures.written
 
-pub take_in-requires-clause-read : goal.take_in-requires-clause-read
-take_in-requires-clause-read g c = (λ i. (c.lacks.ensures.rest i).files.read) ∙ c.close.ensures.read
+pub take_in-done-requires-clause-read : goal.take_in-done-requires-clause-read
+take_in-done-requires-clause-read g c = (λ i. (c.lacks.ensures.rest i).files.read) ∙ c.close.ensures.read
 
 pub returns-in-Ok-clause-looks : goal.returns-in-Ok-clause-looks
 returns-in-Ok-clause-looks g c =
@@ -76,8 +76,8 @@ returns-in-Ok-clause-looks g c =
     let old : State = state_of past_of c.args.self.now in
     let last : FolderPast = past_of c.open_empty.new.folder in
     let went : record (state_of past_of c.lacks.new.self) { past = last } ≡ record old { past = last } = λ i. record (state_of past_of (c.lacks.ensures.rest i)) { past = last } in
-    looks_before tells name old (state_of past_of c.take_in.new.self) last (λ told. c.open_empty.ensures.same told ∙ c.lacks.ensures.same told)
-    (subst (λ (s : State). Looks tells name s (state_of past_of c.take_in.new.self)) went c.take_in.ensures.looks)
+    looks_before tells name old (state_of past_of c.take_in-done.new.self) last (λ told. c.open_empty.ensures.same told ∙ c.lacks.ensures.same told)
+    (subst (λ (s : State). Looks tells name s (state_of past_of c.take_in-done.new.self)) went c.take_in-done.ensures.looks)
 
 pub returns-in-Err-clause-looks : goal.returns-in-Err-clause-looks
 returns-in-Err-clause-looks g c =
@@ -95,3 +95,7 @@ returns-in-Err-clause-open g c = λ told.
     none_open g.N.FileNames.name g.F.Folder.name_of (g.F.Folder.past c.open_empty.new.folder) c.lacks.new.self.files
     ((λ i. (c.lacks.ensures.rest i).files.written) ∙ c.close.ensures.written)
     ((λ i. (c.lacks.ensures.rest i).files.read) ∙ c.close.ensures.read)
+
+pub returns-in-Ok-clause-open : goal.returns-in-Ok-clause-open
+returns-in-Ok-clause-open g c = λ told.
+    left_after g.N.FileNames.name g.F.Folder.name_of (g.F.Folder.past c.take_in-done.new.self.timed.folder) c.take_in-done.new.self.files c.leave.new.self c.leave.ensures (c.take_in-done.ensures.open told)
