@@ -9,9 +9,9 @@ use Rattle.index_entry.specs.Facts.{Facts}
 use Rattle.disk_model.specs.Image.{Image}
 use Rattle.archive_shelf.proofs.StoringLaws.{leading_grows, leads_itself, stores_grow}
 use Rattle.archive_shelf.specs.Answers.{CountsIf, LeavesReading, StoreLeaves, is_store_fault}
-use Rattle.archive_shelf.specs.Contents.{Begins, Contents, IsConsistent, Leads, LeadsShown, Looks, Stays}
+use Rattle.archive_shelf.specs.Contents.{Begins, Contents, IsConsistent, Leads, LeadsShown, Looks, Shows, Stays}
 use Rattle.archive_shelf.specs.Openings.{CrashStates, IsEarlier, Keeps, LeavesNoMore}
-use Rattle.archive_shelf.specs.Told.{GoesOn, LooksOn, ReadsOn, StoreMayLeave, StoresOn, Told, WritesNothing}
+use Rattle.archive_shelf.specs.Told.{CatchesUp, GoesOn, LooksOn, ReadsOn, StoreMayLeave, StoresOn, Told, WritesNothing}
 use Rattle.archive_shelf.specs.declared.fault.StoreFault.{StoreFault}
 use Rattle.archive_shelf.specs.declared.fault.StoreFault.TheVariants as stores
 use Rattle.archive_shelf.specs.declared.receipt.Receipt.{Receipt}
@@ -141,23 +141,13 @@ pub counted : (fault : Bool) (before now : ℕ) → CountsIf fault before now �
 counted true before now h = h.0
 counted false before now e = omega (arith, e)
 
--- ---- looks, reads, and one behind the other
+-- ---- looks, and one read behind the other
 
 pub looks_itself : (alone : Bool) (now : Told) → LooksOn alone now now
 looks_itself alone now = record {
   looks = record { shown = shown_itself alone now.contents.shown; others = refl };
   faults = refl;
   unwritten = writes_nothing_itself alone now;
-}
-
-pub looked_both : (alone : Bool) (was mid is : Told) → LooksOn alone was mid → LooksOn alone mid is → LooksOn alone was is
-looked_both alone was mid is h k = record {
-  looks = record {
-    shown = leads_shown_both alone was.contents.shown mid.contents.shown is.contents.shown h.looks.shown k.looks.shown;
-    others = k.looks.others ∙ ap (λ (x : Contents). record x { shown = is.contents.shown }) h.looks.others;
-  };
-  faults = k.faults ∙ h.faults;
-  unwritten = writes_nothing_both alone was mid is (same_tells was.contents mid.contents h.looks.others) h.unwritten k.unwritten;
 }
 
 -- a look is a read that met no fault
@@ -177,6 +167,26 @@ read_both alone fault was mid is h k = record {
   stays = stays_both alone was.contents mid.contents is.contents h.stays k.stays;
   faults = subst (λ (n : ℕ). CountsIf fault n is.faults) h.faults k.faults;
   unwritten = writes_nothing_both alone was mid is (stays_tells alone was.contents mid.contents h.stays) h.unwritten k.unwritten;
+}
+
+-- ---- catching up
+
+pub looked_catches : (alone : Bool) (was is : Told) → LooksOn alone was is → CatchesUp alone was is
+looked_catches alone was is h = record {
+  reads = looked_reads alone was is h;
+  knows = λ tells shown knows. subst (λ (b : Book). Shows alone b shown) (same_seen was.contents is.contents h.looks.others) knows;
+  consistent = looked_consistent alone was.contents is.contents h.looks;
+}
+
+pub catches_itself : (alone : Bool) (now : Told) → CatchesUp alone now now
+catches_itself alone now = looked_catches alone now now (looks_itself alone now)
+
+pub caught_both : (alone : Bool) (was mid is : Told) → CatchesUp alone was mid → CatchesUp alone mid is → CatchesUp alone was is
+caught_both alone was mid is h k = record {
+  reads = read_both alone false was mid is h.reads k.reads;
+  knows = λ tells shown knows.
+      h.knows tells shown (k.knows (subst (λ (b : Bool). IsTrue b) (sym (stays_tells alone was.contents mid.contents h.reads.stays)) tells) shown knows);
+  consistent = λ before. k.consistent (h.consistent before);
 }
 
 -- ---- a store
@@ -275,10 +285,8 @@ stays_goes_on alone fault was is consistent stays faults crash = record {
   kept = crash.kept;
 }
 
-pub looked_goes_on : (alone : Bool) (was is : Told) → LooksOn alone was is → GoesOn alone was is
-looked_goes_on alone was is h =
-    stays_goes_on alone false was is (looked_consistent alone was.contents is.contents h.looks) (looked_stays alone was.contents is.contents h.looks)
-    h.faults h.unwritten.crash
+pub caught_goes_on : (alone : Bool) (was is : Told) → CatchesUp alone was is → GoesOn alone was is
+caught_goes_on alone was is h = stays_goes_on alone false was is h.consistent h.reads.stays h.reads.faults h.reads.unwritten.crash
 
 pub read_goes_on : (alone fault : Bool) (was is : Told) → IsConsistent alone is.contents → ReadsOn alone fault was is → GoesOn alone was is
 read_goes_on alone fault was is consistent h = stays_goes_on alone fault was is (λ _. consistent) h.stays h.faults h.unwritten.crash

@@ -1,5 +1,6 @@
 pub mod CallLaws
 pub mod ComparingLaws
+pub mod EarlierShowing
 pub mod EarlierSoundness
 pub mod EntryLaws
 pub mod GainingSoundness

@@ -1,7 +1,8 @@
 -- What is told of a shelf, and what each of its calls leaves of that. Whatever stands on a shelf cites these statements.
-use Rattle.std.specs.Prelude.{◌≡◌, ◌≤◌, ℕ, Bool, IsTrue, OnOk, None, Result}
+use Rattle.std.specs.Prelude.{◌≡◌, ◌≤◌, ℕ, Bool, false, IsTrue, List, OnOk, None, Result}
 use Rattle.capture.specs.Growth.{Grows}
 use Rattle.capture.specs.declared.captured.Taken.{Taken}
+use Rattle.index_entry.specs.Facts.{Facts}
 use Rattle.disk_model.specs.Image.{Image}
 use Rattle.archive_shelf.specs.Answers.{CountsIf, LeavesReading, StoreLeaves, WritesNone, is_store_fault}
 use Rattle.archive_shelf.specs.Contents.{Begins, Contents, IsConsistent, Looks, Shows, Stays}
@@ -50,6 +51,13 @@ pub record ReadsOn (alone fault : Bool) (was is : Told) : Type 0 where
   pub stays : Stays alone was.contents is.contents
   pub faults : CountsIf fault was.faults is.faults
   pub unwritten : WritesNothing alone was is
+
+-- A look, or looks with a turn between that showed what couldn't be shown before: nothing was stored, and the disk wasn't asked. In company a book that has
+-- grown may be seen then; what knows that knows the one before.
+pub record CatchesUp (alone : Bool) (was is : Told) : Type 0 where
+  pub reads : ReadsOn alone false was is
+  pub knows : IsTrue was.contents.tells → (shown : List Facts) → Shows alone is.contents.seen shown → Shows alone was.contents.seen shown
+  pub consistent : IsConsistent alone was.contents → IsConsistent alone is.contents
 
 -- What a crash may leave after a store, at whatever moment it stops that.
 pub record StoreMayLeave (alone : Bool) (taken : Taken) (was is : Told) (result : Result Receipt StoreFault) : Type 0 where

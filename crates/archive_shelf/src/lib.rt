@@ -7,6 +7,7 @@ mod fault;
 mod finder;
 mod laws;
 mod looked;
+mod looking;
 mod receipt;
 mod shelf;
 
@@ -20,5 +21,6 @@ pub use laws::{
     storing_keeps_soundness, texts_go_on_behind,
 };
 pub use looked::Looked;
+pub use looking::{find_all, find_nearest, find_starting};
 pub use receipt::Receipt;
 pub use shelf::Shelf;

@@ -1,10 +1,9 @@
 //! What captures are stored on and brought from.
-ghost use Rattle.std.specs.Prelude.{false};
 ghost use Rattle.warc_text.specs.Fits.{Fits};
 ghost use Rattle.archive_shelf.specs.Answers.{Brings, NamesKeeper, is_bring_fault};
 ghost use Rattle.archive_shelf.specs.Digests.{GoesByDigest, PieceGoesByDigest};
 ghost use Rattle.archive_shelf.specs.Pieces.{GivesPiece};
-ghost use Rattle.archive_shelf.specs.Told.{HoldsJust, ReadsOn, ShowsItsBook, StoresOn};
+ghost use Rattle.archive_shelf.specs.Told.{CatchesUp, HoldsJust, ReadsOn, ShowsItsBook, StoresOn};
 
 use crate::{BringFault, Finder, Receipt, StoreFault};
 use capture::{Brought, Bytes, Taken};
@@ -39,6 +38,6 @@ pub trait Shelf: Finder {
     /// For a query that met want of memory: what was stored and couldn't be shown by date for that is shown, as far as there is memory now.
     /// Nothing is stored, and the disk isn't asked.
     fn catch_up(&mut self, alloc: Global)
-        ensures reads { ReadsOn Self.alone false (Self.told self.old) (Self.told self.new) }
+        ensures catches { CatchesUp Self.alone (Self.told self.old) (Self.told self.new) }
         ensures shows { ShowsItsBook Self.alone (Self.told self.new) };
 }

@@ -5,4 +5,4 @@ use Rattle.load_shelf.proofs.shelf.LoadShelfShelf.catch_up.Goals as goal
 
 pub invariant_of-self : goal.invariant_of-self
 invariant_of-self g c =
-    read g.S.Finder.alone false (g.S.Finder.told c.self.inside.shelf) (g.S.Finder.told c.catch_up.new.self) _ _ _ _ c.catch_up.ensures.reads c.self.invariant
+    read g.S.Finder.alone false (g.S.Finder.told c.self.inside.shelf) (g.S.Finder.told c.catch_up.new.self) _ _ _ _ c.catch_up.ensures.catches.reads c.self.invariant
