@@ -1,11 +1,11 @@
 -- What is found by its date, and what an address says of it.
 use Rattle.std.proofs.Common.{◌≡◌, inl, ℕ, Bool, true, false, List, Option, Some, Result, Ok, Err, refl, sym, ◌∙◌}
 use Rattle.std.specs.Prelude.{None, MatchOption, codes, slice_get}
-use Rattle.archive_shelf.proofs.CallLaws.{same_tells, stays_tells}
+use Rattle.archive_shelf.proofs.CallLaws.{stays_tells}
 use Rattle.archive_shelf.specs.Answers.{Brings, is_bring_fault}
 use Rattle.archive_shelf.specs.Contents.{Contents, LeadsShown}
 use Rattle.archive_shelf.specs.Openings.{IsEarlier}
-use Rattle.archive_shelf.specs.Told.{LooksOn, ReadsOn, Told}
+use Rattle.archive_shelf.specs.Told.{CatchesUp, ReadsOn, Told}
 use Rattle.archive_shelf.specs.declared.fault.BringFault.{BringFault}
 use Rattle.archive_shelf.specs.declared.fault.BringFault.TheVariants as brings
 use Rattle.capture.specs.Fields.{NamedValue, values_of}
@@ -66,7 +66,7 @@ found_replayed terms alone q sought number faults disk brought mid is h later (t
 
 -- or it wasn't brought
 pub found_unbrought : (alone : Bool) (setting : Setting) (q : SiteRequest) (sought : Nearest) (number : ℕ) (fault : BringFault) (asks closes : Bool)
-    (result : Result Given Memory) (was mid is : Told) → IsEarlier is.crash → LooksOn alone was mid → FindsJust alone mid.contents q sought number
+    (result : Result Given Memory) (was mid is : Told) → IsEarlier is.crash → CatchesUp alone was mid → FindsJust alone mid.contents q sought number
     → asks ≡ asks_for_head q.message.head.method → Brings is.contents number (Err fault) → ReadsOn alone (is_bring_fault {T = Brought} (Err fault)) mid is
     → Declines (refusal_by_bring number fault) asks closes result → AnswersVisit alone setting q closes result was is
 found_unbrought alone setting q sought number (brings.NoSuch count) asks closes result was mid is earlier looks h same b reads declines =
@@ -79,7 +79,7 @@ found_unbrought alone setting q sought number (brings.Damaged at kept found) ask
     (λ faults. (
       inl (ForNearest sought, number, (h.reaches.entry, h.reaches.reaches, h.reaches.named, h.reaches.number_is, b.0), b.2),
       told_damaged _ _ kept found
-          (stays_tells alone mid.contents is.contents reads.stays ∙ same_tells was.contents mid.contents looks.looks.others) b.3,
+          (stays_tells alone mid.contents is.contents reads.stays ∙ stays_tells alone was.contents mid.contents looks.reads.stays) b.3,
     )) same declines
 found_unbrought alone setting q sought number brings.Memory asks closes result was mid is earlier looks h same b reads declines =
     found_lacking_by alone setting q closes result was mid is earlier looks h.knows reads declines

@@ -5,12 +5,11 @@ use Rattle.std.specs.List.{starts_with}
 use Rattle.std.proofs.lemmas.Bool.{eqb-true, false≢true}
 use Rattle.std.proofs.lemmas.List.Elements.{Contains-append_left}
 use Rattle.std.proofs.lemmas.Slice.Eq.{bytes_eq-Decides}
-use Rattle.archive_shelf.proofs.CallLaws.{looked_reads, read_both, reads_itself, same_seen, same_tells}
+use Rattle.archive_shelf.proofs.CallLaws.{read_both, reads_itself, stays_tells}
 use Rattle.archive_shelf.specs.Contents.{Contents, LeadsShown, Shows}
 use Rattle.archive_shelf.specs.Openings.{IsEarlier}
 use Rattle.archive_shelf.specs.Queries.{ArePicked, IsFound}
-use Rattle.archive_shelf.specs.Told.{KnowsBook, LooksOn, ReadsOn, Told}
-use Rattle.capture.specs.declared.book.Book.{Book}
+use Rattle.archive_shelf.specs.Told.{CatchesUp, KnowsBook, ReadsOn, Told}
 use Rattle.capture.specs.Methods.{asks_for_head}
 use Rattle.capture.specs.declared.memory.Memory.{Memory}
 use Rattle.capture.specs.declared.refusal.Refusal.{Refusal}
@@ -32,23 +31,22 @@ use Rattle.request_answer.specs.steps.Givens.{Given}
 use Rattle.request_answer.proofs.VisitLaws.{is_declined, Visits, bring_lacking, one_if, seen_at, visit_answers, visit_refuses, undecided}
 
 -- the entries that are shown know the book that was seen before
-knows_before : (alone : Bool) (was is : Told) → LooksOn alone was is → KnowsBook alone is.contents → IsTrue was.contents.tells
+knows_before : (alone : Bool) (was is : Told) → CatchesUp alone was is → KnowsBook alone is.contents → IsTrue was.contents.tells
     → Shows alone was.contents.seen is.contents.shown
 knows_before alone was is h knows tells =
-    subst (λ (b : Book). Shows alone b is.contents.shown) (same_seen was.contents is.contents h.looks.others)
-    (knows (rw (same_tells was.contents is.contents h.looks.others) tells))
+    h.knows tells is.contents.shown (knows (subst (λ (b : Bool). IsTrue b) (sym (stays_tells alone was.contents is.contents h.reads.stays)) tells))
 
 -- ---- a reply that is decided by a look, and perhaps by what was read then
 
 found_visits : (alone : Bool) (setting : Setting) (q : SiteRequest) (reply : SiteReply) (fault : Bool) (was mid is : Told)
-    → LooksOn alone was mid → KnowsBook alone mid.contents → ReadsOn alone fault mid is → disk_fault (Visited q reply) ≡ one_if fault
+    → CatchesUp alone was mid → KnowsBook alone mid.contents → ReadsOn alone fault mid is → disk_fault (Visited q reply) ≡ one_if fault
     → ((faults : ℕ) → IsSiteReply (terms_at alone setting was) q reply (seen_at mid.contents.shown faults was is))
     → Visits alone setting q reply mid.contents.shown was is
 found_visits alone setting q reply fault was mid is h knows k met by = record {
   fault = fault;
-  reads = read_both alone fault was mid is (looked_reads alone was mid h) k;
+  reads = read_both alone fault was mid is h.reads k;
   met = met;
-  shows = h.looks.shown;
+  shows = h.reads.stays.shown;
   later = k.stays.shown;
   knows = λ tells from. knows_before alone was mid h knows tells;
   by = by;
@@ -56,7 +54,7 @@ found_visits alone setting q reply fault was mid is h knows k met by = record {
 
 pub found_answers : (alone : Bool) (setting : Setting) (q : SiteRequest) (reply : SiteReply) (closes fault : Bool)
     (result : Result Given Memory) (was mid is : Told) → IsEarlier is.crash
-    → LooksOn alone was mid → KnowsBook alone mid.contents → ReadsOn alone fault mid is → disk_fault (Visited q reply) ≡ one_if fault
+    → CatchesUp alone was mid → KnowsBook alone mid.contents → ReadsOn alone fault mid is → disk_fault (Visited q reply) ≡ one_if fault
     → is_declined reply ≡ false
     → ((faults : ℕ) → IsSiteReply (terms_at alone setting was) q reply (seen_at mid.contents.shown faults was is))
     → IfOk result (λ answer. IsTextOf (terms_at alone setting was) (Visited q reply) closes answer.text) → IfOk result (λ answer. answer.closes ≡ closes)
@@ -69,7 +67,7 @@ found_answers alone setting q reply closes fault result was mid is earlier h kno
 -- or refused
 pub found_refuses : (alone : Bool) (setting : Setting) (q : SiteRequest) (refusal : Refusal) (asks closes fault : Bool)
     (result : Result Given Memory) (was mid is : Told) → IsEarlier is.crash
-    → LooksOn alone was mid → KnowsBook alone mid.contents → ReadsOn alone fault mid is → disk_fault (Visited q (Refuses refusal)) ≡ one_if fault
+    → CatchesUp alone was mid → KnowsBook alone mid.contents → ReadsOn alone fault mid is → disk_fault (Visited q (Refuses refusal)) ≡ one_if fault
     → ((faults : ℕ) → IsSiteReply (terms_at alone setting was) q (Refuses refusal) (seen_at mid.contents.shown faults was is))
     → asks ≡ asks_for_head q.message.head.method → IsRefusing refusal asks closes result → AnswersVisit alone setting q closes result was is
 found_refuses alone setting q refusal asks closes fault result was mid is earlier h knows k met by same refusing =
@@ -77,19 +75,19 @@ found_refuses alone setting q refusal asks closes fault result was mid is earlie
     (found_visits alone setting q (Refuses refusal) fault was mid is h knows k met by) same refusing
 
 pub found_lacking : (alone : Bool) (setting : Setting) (q : SiteRequest) (closes : Bool) (memory : Memory) (was mid is : Told) → IsEarlier is.crash
-    → LooksOn alone was mid → KnowsBook alone mid.contents → ReadsOn alone false mid is → AnswersVisit alone setting q closes (Err memory) was is
+    → CatchesUp alone was mid → KnowsBook alone mid.contents → ReadsOn alone false mid is → AnswersVisit alone setting q closes (Err memory) was is
 found_lacking alone setting q closes memory was mid is earlier h knows k incoming then now answers links faults closing asked known =
     undecided alone setting incoming mid.contents.shown was is then now answers links faults earlier known
-    (read_both alone false was mid is (looked_reads alone was mid h) k) h.looks.shown k.stays.shown
+    (read_both alone false was mid is h.reads k) h.reads.stays.shown k.stays.shown
 
 pub found_lacking_by : (alone : Bool) (setting : Setting) (q : SiteRequest) (closes : Bool) (result : Result Given Memory) (was mid is : Told) → IsEarlier is.crash
-    → LooksOn alone was mid → KnowsBook alone mid.contents → ReadsOn alone false mid is → IsErr result → AnswersVisit alone setting q closes result was is
+    → CatchesUp alone was mid → KnowsBook alone mid.contents → ReadsOn alone false mid is → IsErr result → AnswersVisit alone setting q closes result was is
 found_lacking_by alone setting q closes (Ok answer) was mid is earlier h knows k err = let bad : ⊥ = cc in absurd bad
 found_lacking_by alone setting q closes (Err memory) was mid is earlier h knows k err = found_lacking alone setting q closes memory was mid is earlier h knows k
 
 -- by a look alone
 pub looked_answers : (alone : Bool) (setting : Setting) (q : SiteRequest) (reply : SiteReply) (closes : Bool)
-    (result : Result Given Memory) (was is : Told) → IsEarlier is.crash → LooksOn alone was is
+    (result : Result Given Memory) (was is : Told) → IsEarlier is.crash → CatchesUp alone was is
     → KnowsBook alone is.contents → disk_fault (Visited q reply) ≡ 0 → is_declined reply ≡ false
     → ((faults : ℕ) → IsSiteReply (terms_at alone setting was) q reply (seen_at is.contents.shown faults was is))
     → IfOk result (λ answer. IsTextOf (terms_at alone setting was) (Visited q reply) closes answer.text) → IfOk result (λ answer. answer.closes ≡ closes)
@@ -99,17 +97,16 @@ looked_answers alone setting q reply closes result was is earlier h knows none u
 
 -- that there is no capture
 pub none_looked : (alone : Bool) (setting : Setting) (q : SiteRequest) (asks closes : Bool)
-    (result : Result Given Memory) (was is : Told) → IsEarlier is.crash → LooksOn alone was is → KnowsBook alone is.contents
+    (result : Result Given Memory) (was is : Told) → IsEarlier is.crash → CatchesUp alone was is → KnowsBook alone is.contents
     → ((faults : ℕ) → IsSiteReply (terms_at alone setting was) q (Refuses NoCapture) (seen_at is.contents.shown faults was is))
     → asks ≡ asks_for_head q.message.head.method → IsRefusing NoCapture asks closes result → AnswersVisit alone setting q closes result was is
 none_looked alone setting q asks closes result was is earlier h knows by same refusing =
     found_refuses alone setting q NoCapture asks closes false result was is is earlier h knows (reads_itself alone is) refl by same refusing
 
--- there was no memory for a look, or behind it, and the shelf caught up then
-pub look_lacking : (alone : Bool) (setting : Setting) (q : SiteRequest) (closes : Bool) (memory : Memory) (was mid is : Told) → IsEarlier is.crash
-    → LooksOn alone was mid → ReadsOn alone false mid is → AnswersVisit alone setting q closes (Err memory) was is
-look_lacking alone setting q closes memory was mid is earlier h k =
-    bring_lacking alone setting q closes memory was is earlier (read_both alone false was mid is (looked_reads alone was mid h) k)
+-- there was no memory for a look, or behind it
+pub look_lacking : (alone : Bool) (setting : Setting) (q : SiteRequest) (closes : Bool) (memory : Memory) (was is : Told) → IsEarlier is.crash
+    → CatchesUp alone was is → AnswersVisit alone setting q closes (Err memory) was is
+look_lacking alone setting q closes memory was is earlier h = bring_lacking alone setting q closes memory was is earlier h.reads
 
 -- ---- what is found
 

@@ -1,6 +1,6 @@
 //! The entries of the index that meet a query, as an answer.
 ghost use Rattle.std.specs.Prelude.{◌≡◌, ℕ, Bool, List, IfOk};
-ghost use Rattle.archive_shelf.specs.Told.{GoesOn, LooksOn};
+ghost use Rattle.archive_shelf.specs.Told.{CatchesUp, GoesOn};
 ghost use Rattle.cdx_query.specs.Picking.{start_of};
 ghost use Rattle.cdx_query.specs.Reading.{IsQuery};
 ghost use Rattle.replay_url.specs.declared.form.Form.TheVariants.{Query as TheQuery};
@@ -13,7 +13,7 @@ use crate::found::found;
 use crate::heads::asks_for_head;
 use crate::refusing::refused;
 use crate::visit::Visit;
-use archive_shelf::Shelf;
+use archive_shelf::{Shelf, find_starting};
 use capture::{Bytes, Memory, Refusal};
 use cdx_query::{Query, QueryFault, answer, read_query};
 use std::alloc::Global;
@@ -55,10 +55,7 @@ fn answer_query<S: Shelf>(
 {
     match look_up(alloc, shelf, query) {
         Ok(text) => found(alloc, visit, query.media_type(), text),
-        Err(Memory) => {
-            shelf.catch_up(alloc);
-            Err(Memory)
-        }
+        Err(Memory) => Err(Memory),
     }
 }
 
@@ -66,9 +63,9 @@ fn answer_query<S: Shelf>(
 fn look_up<S: Shelf>(alloc: Global, shelf: &mut S, query: &Query) -> Result<Bytes, Memory>
     requires start { query.now.start ≡ start_of query.now.kind query.now.key }
     ensures found { IfOk result (λ text. FindsAnswer S.alone (S.told shelf.new).contents query.now text) }
-    ensures looks { LooksOn S.alone (S.told shelf.old) (S.told shelf.new) }
+    ensures looks { CatchesUp S.alone (S.told shelf.old) (S.told shelf.new) }
 {
-    match shelf.starting(alloc, &query.start) {
+    match find_starting(alloc, shelf, &query.start) {
         Ok(entries) => answer(alloc, query, entries.as_slice()),
         Err(Memory) => Err(Memory),
     }

@@ -1,7 +1,7 @@
 //! The list of a URL's captures, as an answer.
 ghost use Rattle.std.specs.Prelude.{◌≡◌, ◌<◌, Bool, codes, length, IfOk};
 ghost use Rattle.std.specs.List.Sorted.{IsNonDecreasingBy};
-ghost use Rattle.archive_shelf.specs.Told.{GoesOn, LooksOn};
+ghost use Rattle.archive_shelf.specs.Told.{CatchesUp, GoesOn};
 ghost use Rattle.capture.specs.Methods.{asks_for_head as is_head};
 ghost use Rattle.replay_url.specs.Keyed.{HasKey};
 ghost use Rattle.replay_url.specs.declared.form.Form.TheVariants.{Map as TheMap};
@@ -16,7 +16,7 @@ use crate::found::found;
 use crate::heads::asks_for_head;
 use crate::refusing::refused;
 use crate::visit::Visit;
-use archive_shelf::Shelf;
+use archive_shelf::{Shelf, find_all};
 use capture::{Memory, Refusal};
 use index_entry::Entry;
 use std::alloc::Global;
@@ -45,10 +45,7 @@ pub fn visit_map<S: Shelf>(
             }
             list(alloc, visit, of.url.as_slice(), entries.as_slice())
         }
-        Err(Memory) => {
-            shelf.catch_up(alloc);
-            Err(Memory)
-        }
+        Err(Memory) => Err(Memory),
     }
 }
 
@@ -56,9 +53,9 @@ pub fn visit_map<S: Shelf>(
 fn all_of<S: Shelf>(alloc: Global, shelf: &mut S, of: &KeyedUrl) -> Result<Vec<Entry>, Memory>
     requires keyed { HasKey of.now }
     ensures found { IfOk result (λ entries. FindsAll S.alone (S.told shelf.new).contents of.now.url entries.items) }
-    ensures looks { LooksOn S.alone (S.told shelf.old) (S.told shelf.new) }
+    ensures looks { CatchesUp S.alone (S.told shelf.old) (S.told shelf.new) }
 {
-    shelf.map(alloc, &of.key)
+    find_all(alloc, shelf, &of.key)
 }
 
 /// The answer that lists entries, where `url` was asked for.

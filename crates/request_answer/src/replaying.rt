@@ -1,6 +1,6 @@
 //! Answers with captures that are brought from the archive.
 ghost use Rattle.std.specs.Prelude.{◌≡◌, Bool, IfOk};
-ghost use Rattle.archive_shelf.specs.Told.{GoesOn, LooksOn};
+ghost use Rattle.archive_shelf.specs.Told.{CatchesUp, GoesOn};
 ghost use Rattle.archive_shelf.specs.Answers.{IsReplayable};
 ghost use Rattle.capture.specs.Methods.{asks_for_head as is_head};
 ghost use Rattle.replay_answer.specs.Mementos.{IsMemento, delivery_of};
@@ -50,7 +50,7 @@ pub fn replay_found<S: Shelf>(
 ) -> Result<Answer, Memory>
     requires found { FindsJust S.alone (S.told shelf.old).contents (record { message = visit.message.now; address = visit.address.now })
         (by_memento sought.time sought.digits sought.raw sought.of.now.url) number }
-    ensures answers { (clock_tells : Bool) (was : S) → LooksOn S.alone (S.told was) (S.told shelf.old)
+    ensures answers { (clock_tells : Bool) (was : S) → CatchesUp S.alone (S.told was) (S.told shelf.old)
         → AnswersVisit S.alone (record { site = visit.entry.site.now; clock_tells = clock_tells })
         (record { message = visit.entry.message.now; address = visit.entry.address.now }) visit.entry.closes result (S.told was) (S.told shelf.new) }
     ensures closes { IfOk result (λ answer. answer.closes ≡ visit.entry.closes) }

@@ -1,6 +1,6 @@
 //! Answers requests to the site for a capture by its date (RFC 7089, sections 4 and 4.1.1).
 ghost use Rattle.std.specs.Prelude.{◌≡◌, Bool, true, Some, None, IfOk, MatchResult, codes, map, slice_get};
-ghost use Rattle.archive_shelf.specs.Told.{GoesOn, LooksOn};
+ghost use Rattle.archive_shelf.specs.Told.{CatchesUp, GoesOn};
 ghost use Rattle.capture.specs.Fields.{values_of};
 ghost use Rattle.http_head.specs.Heads.{named_value};
 ghost use Rattle.replay_url.specs.Forms.{IsForm};
@@ -18,7 +18,7 @@ use crate::heads::asks_for_head;
 use crate::refusing::refused;
 use crate::replaying::replay_found;
 use crate::visit::{Sought, Visit};
-use archive_shelf::Shelf;
+use archive_shelf::{Shelf, find_nearest};
 use capture::{Memory, Refusal};
 use http_head::{Field, first_value};
 use index_entry::{Entry, number_of};
@@ -73,10 +73,7 @@ fn redirect_to_nearest<S: Shelf>(
     match seek(alloc, shelf, of, time) {
         Ok(Some(entry)) => lead_to(alloc, visit, of.url.as_slice(), &entry, false, true),
         Ok(None) => Ok(refused(Refusal::NoCapture, answers_head, visit.closes)),
-        Err(Memory) => {
-            shelf.catch_up(alloc);
-            Err(Memory)
-        }
+        Err(Memory) => Err(Memory),
     }
 }
 
@@ -111,10 +108,7 @@ pub fn visit_memento<S: Shelf>(
             )
         }
         Ok(None) => Ok(refused(Refusal::NoCapture, answers_head, visit.closes)),
-        Err(Memory) => {
-            shelf.catch_up(alloc);
-            Err(Memory)
-        }
+        Err(Memory) => Err(Memory),
     }
 }
 
@@ -127,9 +121,9 @@ fn seek<S: Shelf>(
 ) -> Result<Option<Entry>, Memory>
     requires keyed { HasKey of.now }
     ensures found { IfOk result (λ found. FindsNearest S.alone (S.told shelf.new).contents of.now.url time found) }
-    ensures looks { LooksOn S.alone (S.told shelf.old) (S.told shelf.new) }
+    ensures looks { CatchesUp S.alone (S.told shelf.old) (S.told shelf.new) }
 {
-    shelf.by_date(alloc, &of.key, time)
+    find_nearest(alloc, shelf, &of.key, time)
 }
 
 /// Whether the address names the date of the entry, by all its digits.

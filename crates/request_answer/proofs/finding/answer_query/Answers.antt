@@ -1,6 +1,6 @@
 -- What was looked up is the answer.
-use Rattle.std.proofs.Common.{false, refl}
-use Rattle.archive_shelf.proofs.CallLaws.{goes_on_both, looked_goes_on, read_goes_on}
+use Rattle.std.proofs.Common.{refl}
+use Rattle.archive_shelf.proofs.CallLaws.{caught_goes_on}
 use Rattle.request_answer.specs.SiteAnswers.{Finds}
 use Rattle.request_answer.proofs.LookLaws.{look_lacking, looked_answers}
 use Rattle.request_answer.proofs.finding.answer_query.Goals as goal
@@ -22,14 +22,12 @@ pub returns-in-Err-clause-answers : goal.returns-in-Err-clause-answers
 returns-in-Err-clause-answers g c clock_tells =
     look_lacking g.S.Finder.alone (record { site = c.args.visit.site.now; clock_tells = clock_tells })
     (record { message = c.args.visit.message.now; address = c.args.visit.address.now }) c.args.visit.closes _ (g.S.Finder.told c.args.shelf.now) (g.S.Finder.told c.look_up.new.shelf)
-    (g.S.Finder.told c.catch_up.new.self) (g.met.S.Finder.earlier c.catch_up.new.self) c.look_up.ensures.looks c.catch_up.ensures.reads
+    (g.met.S.Finder.earlier c.look_up.new.shelf) c.look_up.ensures.looks
 
 pub returns-in-Ok-clause-goes_on : goal.returns-in-Ok-clause-goes_on
 returns-in-Ok-clause-goes_on g c =
-    looked_goes_on g.S.Finder.alone (g.S.Finder.told c.args.shelf.now) (g.S.Finder.told c.look_up.new.shelf) c.look_up.ensures.looks
+    caught_goes_on g.S.Finder.alone (g.S.Finder.told c.args.shelf.now) (g.S.Finder.told c.look_up.new.shelf) c.look_up.ensures.looks
 
 pub returns-in-Err-clause-goes_on : goal.returns-in-Err-clause-goes_on
 returns-in-Err-clause-goes_on g c =
-    goes_on_both g.S.Finder.alone (g.S.Finder.told c.args.shelf.now) (g.S.Finder.told c.look_up.new.shelf) (g.S.Finder.told c.catch_up.new.self)
-    (looked_goes_on g.S.Finder.alone (g.S.Finder.told c.args.shelf.now) (g.S.Finder.told c.look_up.new.shelf) c.look_up.ensures.looks)
-    (read_goes_on g.S.Finder.alone false (g.S.Finder.told c.look_up.new.shelf) (g.S.Finder.told c.catch_up.new.self) c.catch_up.ensures.shows.consistent c.catch_up.ensures.reads)
+    caught_goes_on g.S.Finder.alone (g.S.Finder.told c.args.shelf.now) (g.S.Finder.told c.look_up.new.shelf) c.look_up.ensures.looks

@@ -4,4 +4,4 @@ use Rattle.request_answer.proofs.listing.all_of.Goals as goal
 
 pub returns-clause-found : goal.returns-clause-found
 returns-clause-found g c =
-    all_found g.S.Finder.alone (g.S.Finder.told c.map.new.self).contents c.args.of.now.url c.args.of.now.key (λ entries. entries.items) c.map.result c.requires.keyed c.map.ensures.found c.map.ensures.knows
+    all_found g.S.Finder.alone (g.S.Finder.told c.find_all.new.shelf).contents c.args.of.now.url c.args.of.now.key (λ entries. entries.items) c.find_all.result c.requires.keyed c.find_all.ensures.found c.find_all.ensures.knows

@@ -1,7 +1,7 @@
 -- The list of the captures that are shown, or that there are none.
-use Rattle.std.proofs.Common.{false, Ok, refl, ap, arith}
+use Rattle.std.proofs.Common.{Ok, refl, ap, arith}
 use Rattle.std.specs.Prelude.{vec_len}
-use Rattle.archive_shelf.proofs.CallLaws.{goes_on_both, looked_goes_on, read_goes_on}
+use Rattle.archive_shelf.proofs.CallLaws.{caught_goes_on}
 use Rattle.replay_url.specs.declared.form.Form.TheVariants.{Map}
 use Rattle.request_answer.specs.SiteAnswers.{Lists}
 use Rattle.request_answer.proofs.DateLaws.{listed_in_order}
@@ -35,18 +35,16 @@ pub returns-in-Err-clause-answers : goal.returns-in-Err-clause-answers
 returns-in-Err-clause-answers g c clock_tells =
     look_lacking g.S.Finder.alone (record { site = c.args.visit.site.now; clock_tells = clock_tells })
     (record { message = c.args.visit.message.now; address = c.args.visit.address.now }) c.args.visit.closes _ (g.S.Finder.told c.args.shelf.now) (g.S.Finder.told c.all_of.new.shelf)
-    (g.S.Finder.told c.catch_up.new.self) (g.met.S.Finder.earlier c.catch_up.new.self) c.all_of.ensures.looks c.catch_up.ensures.reads
+    (g.met.S.Finder.earlier c.all_of.new.shelf) c.all_of.ensures.looks
 
 pub returns-then-is_empty-clause-goes_on : goal.returns-then-is_empty-clause-goes_on
 returns-then-is_empty-clause-goes_on g c =
-    looked_goes_on g.S.Finder.alone (g.S.Finder.told c.args.shelf.now) (g.S.Finder.told c.all_of.new.shelf) c.all_of.ensures.looks
+    caught_goes_on g.S.Finder.alone (g.S.Finder.told c.args.shelf.now) (g.S.Finder.told c.all_of.new.shelf) c.all_of.ensures.looks
 
 pub returns-else-is_empty-clause-goes_on : goal.returns-else-is_empty-clause-goes_on
 returns-else-is_empty-clause-goes_on g c =
-    looked_goes_on g.S.Finder.alone (g.S.Finder.told c.args.shelf.now) (g.S.Finder.told c.all_of.new.shelf) c.all_of.ensures.looks
+    caught_goes_on g.S.Finder.alone (g.S.Finder.told c.args.shelf.now) (g.S.Finder.told c.all_of.new.shelf) c.all_of.ensures.looks
 
 pub returns-in-Err-clause-goes_on : goal.returns-in-Err-clause-goes_on
 returns-in-Err-clause-goes_on g c =
-    goes_on_both g.S.Finder.alone (g.S.Finder.told c.args.shelf.now) (g.S.Finder.told c.all_of.new.shelf) (g.S.Finder.told c.catch_up.new.self)
-    (looked_goes_on g.S.Finder.alone (g.S.Finder.told c.args.shelf.now) (g.S.Finder.told c.all_of.new.shelf) c.all_of.ensures.looks)
-    (read_goes_on g.S.Finder.alone false (g.S.Finder.told c.all_of.new.shelf) (g.S.Finder.told c.catch_up.new.self) c.catch_up.ensures.shows.consistent c.catch_up.ensures.reads)
+    caught_goes_on g.S.Finder.alone (g.S.Finder.told c.args.shelf.now) (g.S.Finder.told c.all_of.new.shelf) c.all_of.ensures.looks

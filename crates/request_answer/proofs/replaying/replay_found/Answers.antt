@@ -1,6 +1,6 @@
 -- What was brought, or wasn't.
 use Rattle.std.proofs.Common.{false, refl, ◌∙◌}
-use Rattle.archive_shelf.proofs.CallLaws.{read_goes_on, same_tells, stays_tells}
+use Rattle.archive_shelf.proofs.CallLaws.{read_goes_on, stays_tells}
 use Rattle.replay_url.specs.Questions.{ForNearest, by_memento}
 use Rattle.request_answer.specs.SiteAnswers.{Replays}
 use Rattle.request_answer.specs.steps.Making.{terms_at}
@@ -18,7 +18,7 @@ returns-in-Ok-clause-answers g c clock_tells was looks =
     (λ faults. found_replayed (terms_at g.S.Finder.alone (record { site = c.args.visit.site.now; clock_tells = clock_tells }) (g.S.Finder.told was)) g.S.Finder.alone (record { message = c.args.visit.message.now; address = c.args.visit.address.now }) (by_memento c.args.sought.time c.args.sought.digits c.args.sought.raw c.args.sought.of.now.url) c.args.number faults
     (g.S.Finder.told was).faults c.in-Ok.brought (g.S.Finder.told c.args.shelf.now).contents (g.S.Finder.told c.bring.new.self).contents
     c.requires.found.reaches c.in-Ok.ensures.reads.stays.shown c.in-Ok.ensures.brings
-    (stays_tells g.S.Finder.alone (g.S.Finder.told c.args.shelf.now).contents (g.S.Finder.told c.bring.new.self).contents c.in-Ok.ensures.reads.stays ∙ same_tells (g.S.Finder.told was).contents (g.S.Finder.told c.args.shelf.now).contents looks.looks.others))
+    (stays_tells g.S.Finder.alone (g.S.Finder.told c.args.shelf.now).contents (g.S.Finder.told c.bring.new.self).contents c.in-Ok.ensures.reads.stays ∙ stays_tells g.S.Finder.alone (g.S.Finder.told was).contents (g.S.Finder.told c.args.shelf.now).contents looks.reads.stays))
     c.replay.ensures.text c.replay.ensures.closes
 
 pub returns-in-Err-clause-answers : goal.returns-in-Err-clause-answers

@@ -4,4 +4,4 @@ use Rattle.request_answer.proofs.seeking.seek.Goals as goal
 
 pub returns-clause-found : goal.returns-clause-found
 returns-clause-found g c =
-    nearest_found g.S.Finder.alone (g.S.Finder.told c.by_date.new.self).contents c.args.of.now.url c.args.of.now.key c.args.time c.by_date.result c.requires.keyed c.by_date.ensures.found c.by_date.ensures.knows
+    nearest_found g.S.Finder.alone (g.S.Finder.told c.find_nearest.new.shelf).contents c.args.of.now.url c.args.of.now.key c.args.time c.find_nearest.result c.requires.keyed c.find_nearest.ensures.found c.find_nearest.ensures.knows

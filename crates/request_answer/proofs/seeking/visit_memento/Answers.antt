@@ -1,6 +1,6 @@
 -- The capture that an address leads to or names, or that there is none.
-use Rattle.std.proofs.Common.{false, Ok, Some, refl, ap}
-use Rattle.archive_shelf.proofs.CallLaws.{goes_on_both, looked_goes_on, read_goes_on}
+use Rattle.std.proofs.Common.{Ok, Some, refl, ap}
+use Rattle.archive_shelf.proofs.CallLaws.{caught_goes_on, goes_on_both}
 use Rattle.replay_url.specs.Questions.{by_memento, names_date}
 use Rattle.replay_url.specs.declared.form.Form.TheVariants.{Memento}
 use Rattle.request_answer.specs.SiteAnswers.{Redirects}
@@ -29,7 +29,7 @@ returns-then-names_date-clause-answers g c clock_tells = c.replay_found.ensures.
 pub returns-then-names_date-clause-goes_on : goal.returns-then-names_date-clause-goes_on
 returns-then-names_date-clause-goes_on g c =
     goes_on_both g.S.Finder.alone (g.S.Finder.told c.args.shelf.now) (g.S.Finder.told c.seek.new.shelf) (g.S.Finder.told c.replay_found.new.shelf)
-    (looked_goes_on g.S.Finder.alone (g.S.Finder.told c.args.shelf.now) (g.S.Finder.told c.seek.new.shelf) c.seek.ensures.looks)
+    (caught_goes_on g.S.Finder.alone (g.S.Finder.told c.args.shelf.now) (g.S.Finder.told c.seek.new.shelf) c.seek.ensures.looks)
     c.replay_found.ensures.goes_on
 
 pub returns-else-names_date-clause-answers : goal.returns-else-names_date-clause-answers
@@ -59,18 +59,16 @@ pub returns-in-Err-clause-answers : goal.returns-in-Err-clause-answers
 returns-in-Err-clause-answers g c clock_tells =
     look_lacking g.S.Finder.alone (record { site = c.args.visit.site.now; clock_tells = clock_tells })
     (record { message = c.args.visit.message.now; address = c.args.visit.address.now }) c.args.visit.closes _ (g.S.Finder.told c.args.shelf.now) (g.S.Finder.told c.seek.new.shelf)
-    (g.S.Finder.told c.catch_up.new.self) (g.met.S.Finder.earlier c.catch_up.new.self) c.seek.ensures.looks c.catch_up.ensures.reads
+    (g.met.S.Finder.earlier c.seek.new.shelf) c.seek.ensures.looks
 
 pub returns-else-names_date-clause-goes_on : goal.returns-else-names_date-clause-goes_on
 returns-else-names_date-clause-goes_on g c =
-    looked_goes_on g.S.Finder.alone (g.S.Finder.told c.args.shelf.now) (g.S.Finder.told c.seek.new.shelf) c.seek.ensures.looks
+    caught_goes_on g.S.Finder.alone (g.S.Finder.told c.args.shelf.now) (g.S.Finder.told c.seek.new.shelf) c.seek.ensures.looks
 
 pub returns-in-Ok-None-clause-goes_on : goal.returns-in-Ok-None-clause-goes_on
 returns-in-Ok-None-clause-goes_on g c =
-    looked_goes_on g.S.Finder.alone (g.S.Finder.told c.args.shelf.now) (g.S.Finder.told c.seek.new.shelf) c.seek.ensures.looks
+    caught_goes_on g.S.Finder.alone (g.S.Finder.told c.args.shelf.now) (g.S.Finder.told c.seek.new.shelf) c.seek.ensures.looks
 
 pub returns-in-Err-clause-goes_on : goal.returns-in-Err-clause-goes_on
 returns-in-Err-clause-goes_on g c =
-    goes_on_both g.S.Finder.alone (g.S.Finder.told c.args.shelf.now) (g.S.Finder.told c.seek.new.shelf) (g.S.Finder.told c.catch_up.new.self)
-    (looked_goes_on g.S.Finder.alone (g.S.Finder.told c.args.shelf.now) (g.S.Finder.told c.seek.new.shelf) c.seek.ensures.looks)
-    (read_goes_on g.S.Finder.alone false (g.S.Finder.told c.seek.new.shelf) (g.S.Finder.told c.catch_up.new.self) c.catch_up.ensures.shows.consistent c.catch_up.ensures.reads)
+    caught_goes_on g.S.Finder.alone (g.S.Finder.told c.args.shelf.now) (g.S.Finder.told c.seek.new.shelf) c.seek.ensures.looks
