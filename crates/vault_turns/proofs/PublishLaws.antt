@@ -12,7 +12,7 @@ use Rattle.capture.specs.declared.book.Book.{Book}
 use Rattle.capture.specs.declared.captured.Stored as captured
 use Rattle.capture.specs.declared.captured.Taken.{Taken}
 use Rattle.index_entry.specs.Facts.{Facts}
-use Rattle.index_entry.specs.OfBook.{AreOf, by_number}
+use Rattle.index_entry.specs.OfBook.{AreEntries, AreOf, by_number}
 use Rattle.index_entry.specs.Queries.{IsIndex}
 use Rattle.index_entry.proofs.Members.{Among-append, Among-append_left, Among-append_right, among_from_contains, contains_from_among}
 use Rattle.archive_shelf.proofs.ComparingLaws.{placed_before}
@@ -281,12 +281,17 @@ has_book history [] some is = absurd (omega (arith, some))
 has_book history (first ∷ others) some is = record { first = first; others = others; begins = ([], append-nil (first ∷ others)); book_is = is }
 
 pub listed_now : {D : Type 0} (tells : Bool) (history : List Noted) (held : Holdings D) (print : Print Item) (whole : Bool) (appended : ℕ)
-    → Publishes tells history held print whole appended → Stands history held → (note : Edge Item) → note ≡ full_of print → IsListed history note whole
-listed_now tells history held print whole appended p stands note note_is =
+    → Publishes tells history held print whole appended → Stands history held
+    → (IsTrue held.told → AreEntries held.book (numbered held.index)) → (note : Edge Item) → note ≡ full_of print → IsListed history note whole
+listed_now tells history held print whole appended p stands shows note note_is =
     subst (λ (n : Edge Item). IsListed history n whole) (sym note_is) (record {
       named = p.named;
       told = p.list_told ∙ sym p.told;
       book = λ t. has_book history print.full p.some (p.same t ∙ stands.book);
+      entries = λ t. (
+        numbered held.index,
+        subst (λ (b : Book). AreEntries b (numbered held.index)) stands.book (shows (subst (λ (b : Bool). IsTrue b) (sym stands.told) t)),
+      );
     })
 
 pub opens_so : (tells : Bool) (book : Book) (source index : List Facts) (item : Item) → IsGathered tells book source index → item.told.value ≡ tells → book_in item ≡ book

@@ -1,6 +1,8 @@
 //! What lies behind a vault's lock.
 ghost use Rattle.std.specs.Prelude.{◌≡◌, IfErr, IfOk, IsTrue, length};
 ghost use Rattle.capture.specs.Captures.{captures};
+ghost use Rattle.index_entry.specs.OfBook.{AreEntries};
+ghost use Rattle.archive_index.specs.Shown.{numbered};
 ghost use Rattle.warc_journal.specs.Journals.{disk_of};
 ghost use Rattle.warc_text.specs.Sound.{IsSound};
 ghost use Rattle.vault_turns.specs.Calm.{HasRightCheckpoints, IsCalm, StaysCalm, StaysRight, StaysStood, StillStands};
@@ -112,6 +114,13 @@ impl<D: Disk> Keeping<D> {
     /// Where the book is told, the book that the history tells is sound.
     pub(crate) fn stays_sound(&self)
         ensures { IsTrue (is_told self.now.history) → IsSound (told_book self.now.history) }
+    {
+        self.archive.shows_its_book();
+    }
+
+    /// Where the book is told, what the archive shows are its entries.
+    pub(crate) fn shows_entries(&self)
+        ensures { IsTrue self.now.holdings.told → AreEntries self.now.holdings.book (numbered self.now.holdings.index) }
     {
         self.archive.shows_its_book();
     }

@@ -173,6 +173,7 @@ impl<D: Disk> Published<D> {
         ensures note { result.note ≡ full_of self.now.print }
     {
         self.keeping.stands();
+        self.keeping.shows_entries();
         Listed {
             note: self.publisher.note(),
             whole: self.whole,
