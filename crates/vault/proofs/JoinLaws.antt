@@ -4,9 +4,9 @@ use mathlib.Core.List.{IsPrefix}
 use Rattle.history_lock.specs.Seen.{Shows}
 use Rattle.index_snapshot.specs.Edges.{Edge}
 use Rattle.logbook.specs.Pages.{Book as LogBook}
-use Rattle.vault_turns.specs.History.{Names, by_of, told_book}
+use Rattle.vault_turns.specs.History.{Names, by_of, is_told, told_book}
 use Rattle.vault_turns.specs.Items.{tells_in}
-use Rattle.vault_turns.specs.Listing.{HasBook, IsListed}
+use Rattle.vault_turns.specs.Listing.{HasBook, HasEntries, IsListed}
 use Rattle.vault_turns.specs.declared.item.Item.{Item}
 use Rattle.vault_turns.specs.declared.noted.Noted.{Noted}
 use Rattle.vault_turns.proofs.PublishLaws.{names_append, names_begun}
@@ -27,6 +27,9 @@ book_on seen was items more same begins has = record {
   book_is = has.book_is ∙ ap told_book (sym same);
 }
 
+entries_on : (seen was : List Noted) → seen ≡ was → (IsTrue (is_told was) → HasEntries (told_book was)) → IsTrue (is_told seen) → HasEntries (told_book seen)
+entries_on seen was same has = subst (λ (l : List Noted). IsTrue (is_told l) → HasEntries (told_book l)) (sym same) has
+
 module _ (passes : ℕ) (numbers others : List ℕ) (a b seen : List Noted) (one : (seen ≡ a) ⊎ (seen ≡ b)) (shows_a : Shows by_of passes numbers a seen)
     (shows_b : Shows by_of passes others b seen) (na nb note : Edge Item) (wa wb whole : Bool) (listed_a : IsListed a na wa) (listed_b : IsListed b nb wb)
     (of : note.of ≡ na.of) (which : (note ≡ na) ⊎ (note ≡ nb)) (first : IsPrefix na.items note.items) (second : IsPrefix nb.items note.items)
@@ -43,5 +46,9 @@ module _ (passes : ℕ) (numbers others : List ℕ) (a b seen : List Noted) (one
     book = λ t. ⊎_elim
         (λ (same : seen ≡ a). book_on seen a na.items note.items same first (listed_a.book (both t).0))
         (λ (same : seen ≡ b). book_on seen b nb.items note.items same second (listed_b.book (both t).1))
+        one;
+    entries = λ t. ⊎_elim
+        (λ (same : seen ≡ a). entries_on seen a same listed_a.entries t)
+        (λ (same : seen ≡ b). entries_on seen b same listed_b.entries t)
         one;
   }

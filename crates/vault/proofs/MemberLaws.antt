@@ -9,16 +9,18 @@ use Rattle.capture.specs.declared.captured.Taken.{Taken}
 use Rattle.warc_text.specs.Sound.{IsSound}
 use Rattle.archive_shelf.specs.Answers.{NamesKeeper, is_bring_fault, is_store_fault}
 use Rattle.archive_shelf.specs.Digests.{GoesByDigest, PieceGoesByDigest}
-use Rattle.archive_shelf.specs.Told.{ReadsOn, ShowsItsBook, StoresOn}
+use Rattle.archive_shelf.specs.Told.{CatchesUp, ReadsOn, ShowsItsBook, StoresOn}
 use Rattle.archive_shelf.specs.declared.fault.BringFault.{BringFault}
 use Rattle.archive_shelf.specs.declared.fault.StoreFault.{StoreFault}
 use Rattle.archive_shelf.specs.declared.receipt.Receipt.{Receipt}
+use Rattle.archive_shelf.proofs.EarlierShowing.{shows_earlier}
 use Rattle.history_lock.specs.Known.{IsSamePass, Known, LockId}
 use Rattle.history_lock.specs.Seen.{Turn}
 use Rattle.vault.specs.Company.{Passing, told_at}
 use Rattle.vault_turns.specs.History.{IsBegun, IsOpening, by_of, is_told, told_book, told_limits}
 use Rattle.vault_turns.specs.Items.{shown_in}
 use Rattle.vault.specs.Members.{AreMembers, AreNewMembers, IsMember, IsMemberAt, IsNewMember, VaultName, name_of}
+use Rattle.vault_turns.specs.Listing.{HasEntries}
 use Rattle.vault.specs.Orderly.{IsOrderly}
 use Rattle.vault_turns.specs.Own.{count_faults, own_captures, own_faults}
 use Rattle.vault.specs.Passes.{IsNew}
@@ -232,7 +234,16 @@ module _ (vault : VaultName) (was is : Passing) (same : IsSamePass was.known is.
     pub flush_member : IsMember vault is.known
     flush_member = member_read vault was.known is.known same member _ false turn (λ found added done. done.none) (λ found added done. done.sound)
 
-    pub flush_reads : ReadsOn false false (told_at was) (told_at is)
+    flush_reads : ReadsOn false false (told_at was) (told_at is)
     flush_reads =
         reads_on was is same shown false
         (read_turn was.known is.known.seen _ (member_begun vault was.known member) member.alone turn false (λ found added done. done.none))
+
+    pub flush_catches : (IsTrue (is_told was.known.seen) → HasEntries (told_book was.known.seen)) → CatchesUp false (told_at was) (told_at is)
+    flush_catches has = record {
+      reads = flush_reads;
+      knows = λ tells shown knows.
+          let entries = has tells in
+          shows_earlier (told_book was.known.seen) (told_book is.known.seen) entries.0 shown entries.1 flush_reads.stays.seen knows;
+      consistent = λ before. (at_shows vault is flush_member).consistent;
+    }

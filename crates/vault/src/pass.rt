@@ -1,8 +1,9 @@
 //! The passes of a vault.
-ghost use Rattle.std.specs.Prelude.{◌≡◌, ◌+◌, ◌≤◌, ◌++◌, [], ◌∷◌, map, vec_len};
+ghost use Rattle.std.specs.Prelude.{◌≡◌, ◌+◌, ◌≤◌, ◌++◌, [], ◌∷◌, IsTrue, map, vec_len};
 ghost use Rattle.std.specs.List.{All};
 ghost use Rattle.std.specs.Vec.{vec_capacity};
-ghost use Rattle.vault_turns.specs.Listing.{IsListed};
+ghost use Rattle.vault_turns.specs.History.{is_told, told_book};
+ghost use Rattle.vault_turns.specs.Listing.{HasEntries, IsListed};
 
 use history_lock::Pass;
 use index_snapshot::Viewer;
@@ -37,6 +38,22 @@ impl VaultPass {
         ensures { result ≡ self.now.known.number }
     {
         self.known.number()
+    }
+
+    /// Whether it has seen by date all that it knows to be stored.
+    pub(crate) fn shows_all(&self) -> bool {
+        if !self.listed.whole {
+            return false;
+        }
+        let shown = self.viewer.note();
+        self.listed.note.begins(&shown)
+    }
+
+    /// Where the disk is told, the book that it has seen has entries.
+    pub(crate) fn has_entries(&self)
+        ensures { IsTrue (is_told self.now.known.seen) → HasEntries (told_book self.now.known.seen) }
+    {
+        let _ = &self.listed;
     }
 
     /// What the lock knows of it.

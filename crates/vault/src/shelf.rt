@@ -21,6 +21,10 @@ impl<'a, R: Wait, D: Disk, J: Naming> Shelf for At<'a, R, D, J> {
     }
 
     fn catch_up(&mut self, alloc: Global) {
+        if self.pass.shows_all() {
+            return;
+        }
+        self.pass.has_entries();
         self.vault.flush(self.rt, alloc, &mut self.pass)
     }
 }
