@@ -34,8 +34,7 @@ use Rattle.warc_text.specs.Records.{group_text}
 use Rattle.warc_text.specs.References.{Reference}
 use Rattle.archive_shelf.proofs.GainingSoundness.{no_volumes}
 use Rattle.archive_shelf.proofs.StoringLaws.{capture_grows, captures_more}
-use Rattle.archive_shelf.specs.Comparing.{KeepsWire}
-use Rattle.archive_shelf.specs.Digests.{HasRequest}
+use Rattle.archive_shelf.specs.Comparing.{HasRequest, KeepsWire}
 use Rattle.archive_shelf.specs.Storing.{add_to_last, with_capture}
 use Rattle.archive_volumes.proofs.GroupPlaces.{in_last_volume}
 use Rattle.archive_volumes.proofs.SpotLaws.{form_read, get_before, made_with, spots_with}

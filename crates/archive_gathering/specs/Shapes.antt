@@ -10,8 +10,8 @@ use Rattle.volume_scan.specs.declared.found.Found.{Found}
 use Rattle.volume_scan.specs.declared.found.Found.TheVariants as founds
 use Rattle.warc_journal.specs.declared.place.Place.{Place}
 use Rattle.warc_scan.specs.declared.group.Revisited.{Revisited}
+use Rattle.archive_shelf.specs.Comparing.{HasRequest}
 use Rattle.archive_volumes.specs.declared.spot.Spot.{Spot}
-use Rattle.archive_shelf.specs.Digests.{HasRequest}
 use Rattle.archive_volumes.specs.Held.{book_of}
 use Rattle.archive_volumes.specs.Spots.{AreHeldWhole, AreSpotsOf, is_told_form}
 use Rattle.archive_volumes.specs.Entries.{AreNamed}

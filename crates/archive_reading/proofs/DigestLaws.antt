@@ -16,8 +16,8 @@ use Rattle.capture.specs.declared.captured.Stored.{Stored}
 use Rattle.warc_scan.specs.Groups.{reference_in}
 use Rattle.warc_scan.specs.declared.outline.Outline.{Outline}
 use Rattle.archive_shelf.specs.Answers.{IsKeeperOf, NamesKeeper, keeper_by}
-use Rattle.archive_shelf.specs.Comparing.{KeepsWire}
-use Rattle.archive_shelf.specs.Digests.{GoesByDigest, HasDigestOf, HasRequest, PieceGoesByDigest, WasRead}
+use Rattle.archive_shelf.specs.Comparing.{HasDigestOf, HasRequest, KeepsWire}
+use Rattle.archive_shelf.specs.Digests.{GoesByDigest, PieceGoesByDigest, WasRead}
 use Rattle.archive_shelf.specs.declared.fault.BringFault.{BringFault}
 use Rattle.archive_shelf.specs.declared.fault.BringFault.TheVariants as brings
 use Rattle.archive_reading.proofs.BringLaws.{keeper_keeps, keeps_same, refers_to}

@@ -10,7 +10,7 @@ use Rattle.warc_journal.specs.Extents.{warc_files}
 use Rattle.warc_journal.specs.Journals.{Rests, disk_of}
 use Rattle.warc_journal.specs.declared.journal.Journal.{Journal}
 use Rattle.warc_text.specs.StandsFor.{StandsFor}
-use Rattle.archive_shelf.specs.Digests.{HasRequest}
+use Rattle.archive_shelf.specs.Comparing.{HasRequest}
 use Rattle.archive_shelf.specs.Openings.{SameBook}
 use Rattle.archive_shelf.specs.declared.depth.Depth.{Depth}
 use Rattle.archive_shelf.specs.declared.depth.Depth.TheVariants as depths

@@ -16,7 +16,7 @@ use Rattle.index_entry.specs.OfBook.{IsEntryOf}
 use Rattle.disk_model.specs.Image.{Image}
 use Rattle.time_text.specs.Texts.{InRange}
 use Rattle.warc_journal.specs.Extents.{cdxj_files}
-use Rattle.archive_shelf.specs.Comparing.{CanRefer, IsSameAs}
+use Rattle.archive_shelf.specs.Comparing.{CanRefer, IsSameAs, RefersAsShown, RefersByDigest}
 use Rattle.archive_shelf.specs.Contents.{Contents, Leads, LeadsShown, Stays}
 use Rattle.archive_shelf.specs.Storing.{Gains, NeedsVolume, Storing, as_stored, stored_by, with_volume}
 use Rattle.archive_shelf.specs.declared.fault.BringFault.{BringFault}
@@ -35,14 +35,16 @@ abbrev pub IsByRule : (limit : ℕ) → Book → Taken → Receipt → Book → 
 IsByRule limit found taken receipt after =
     (storing : Storing limit found taken) × (receipt.same_as ≡ storing.same) × (after ≡ stored_by storing)
 
--- The capture was stored, and it alone, in the book that the call found, which wasn't full: where the disk is told, by the rule, and the receipt names what
--- the capture refers to.
+-- The capture was stored, and it alone, in the book that the call found, which wasn't full. Whatever is told, what it refers to has the digest of its payload;
+-- where the disk is told it is stored by the rule, and the receipt names what it refers to.
 pub record HasStored (alone : Bool) (taken : Taken) (was is : Contents) (receipt : Receipt) : Type 0 where
   pub found : Book
   pub led : Leads alone was.seen found
   pub not_full : length (captures found) < was.limits.captures
   pub number : receipt.number ≡ length (captures found)
   pub refers : CanRefer taken.cut found receipt.same_as
+  pub by_digest : RefersByDigest found taken receipt.same_as
+  pub as_shown : RefersAsShown is.shown taken receipt.same_as
   pub gained : Gains found (as_stored taken receipt.same_as) is.seen
   pub by_rule : IsTrue was.tells
       → (storing : Storing was.limits.volume_bytes found taken) × (receipt.same_as ≡ storing.same) × (is.seen ≡ stored_by storing)

@@ -1,10 +1,12 @@
 -- Which earlier capture has a payload that is to be stored. Payloads are equal byte for byte; digests decide nothing.
-use Rattle.std.specs.Prelude.{◌≡◌, ◌≢◌, ℕ, ◌<◌, ◌≤◌, Bool, true, false, IsTrue, IfSome, List, [], length, slice_get, Option, Some, None}
+use Rattle.std.specs.Prelude.{◌≡◌, ◌≢◌, ℕ, ◌<◌, ◌≤◌, Bool, true, false, IsTrue, IfSome, List, [], length, slice_get, Contains, Option, Some, None}
+use Rattle.sha1.specs.Sha1.{sha1}
 use Rattle.capture.specs.Captures.{captures, is_cut, HasPayload, IsPayloadOf}
 use Rattle.capture.specs.declared.book.Book.{Book}
 use Rattle.capture.specs.declared.captured.Kept.TheVariants.{Wire}
 use Rattle.capture.specs.declared.captured.Stored.{Stored}
 use Rattle.capture.specs.declared.captured.Taken.{Taken}
+use Rattle.index_entry.specs.Facts.{Facts}
 use Rattle.archive_shelf.specs.declared.looked.Looked.{Looked}
 
 -- the capture with this number has the payload, and wasn't cut
@@ -44,3 +46,25 @@ pub record IsSameAs (book : Book) (taken : Taken) (same : Option ℕ) : Type 0 w
   pub payload : List ℕ
   pub has : HasPayload taken.cut taken.method taken.head taken.wire payload
   pub refers : RefersBy taken.cut book (length (captures book)) payload same
+
+-- ---- by digests, whatever the disk tells
+
+-- the digest is that of the payload which the capture with this number has in the book
+abbrev pub HasDigestOf : Book → ℕ → List ℕ → Type 0
+HasDigestOf book number digest = (payload : List ℕ) × IsPayloadOf book number payload × (digest ≡ sha1 payload)
+
+-- the book has the request of the capture with this number: it has none of one of which a line of a checkpoint alone told
+abbrev pub HasRequest : Book → ℕ → Type 0
+HasRequest book number = (stored : Stored) × (slice_get (captures book) number ≡ Some stored) × (stored.request ≢ [])
+
+-- What a new capture refers to has the digest of its payload: the book's capture has, where the book has the request of that;
+abbrev pub RefersByDigest : Book → Taken → Option ℕ → Type 0
+RefersByDigest book taken same =
+    (payload : List ℕ) → HasPayload taken.cut taken.method taken.head taken.wire payload
+    → IfSome same (λ number. HasRequest book number → HasDigestOf book number (sha1 payload))
+
+-- and each of these entries under its number tells it.
+abbrev pub RefersAsShown : List Facts → Taken → Option ℕ → Type 0
+RefersAsShown entries taken same =
+    (payload : List ℕ) → HasPayload taken.cut taken.method taken.head taken.wire payload
+    → IfSome same (λ number. (entry : Facts) → Contains entries entry → entry.number ≡ number → entry.digest ≡ sha1 payload)

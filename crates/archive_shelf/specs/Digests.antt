@@ -6,17 +6,10 @@ use Rattle.capture.specs.declared.book.Book.{Book}
 use Rattle.capture.specs.declared.captured.Brought.{Brought}
 use Rattle.capture.specs.declared.captured.Stored.{Stored}
 use Rattle.archive_shelf.specs.Answers.{IsKeeperOf}
+use Rattle.archive_shelf.specs.Comparing.{HasDigestOf, HasRequest}
 use Rattle.archive_shelf.specs.Pieces.{IsSomePiece}
 use Rattle.archive_shelf.specs.declared.fault.BringFault.{BringFault}
 use Rattle.archive_shelf.specs.declared.fault.BringFault.TheVariants as brings
-
--- the digest is that of the payload which the capture with this number has in the book
-abbrev pub HasDigestOf : Book → ℕ → List ℕ → Type 0
-HasDigestOf book number digest = (payload : List ℕ) × IsPayloadOf book number payload × (digest ≡ sha1 payload)
-
--- the book has the request of the capture with this number: it has none of one of which a line of a checkpoint alone told
-abbrev pub HasRequest : Book → ℕ → Type 0
-HasRequest book number = (stored : Stored) × (slice_get (captures book) number ≡ Some stored) × (stored.request ≢ [])
 
 -- the records of the capture, and of the one that keeps its payload, were read or written
 pub record WasRead (book : Book) (number : ℕ) : Type 0 where

@@ -13,8 +13,7 @@ use Rattle.capture.specs.declared.captured.Kept.{Kept}
 use Rattle.capture.specs.declared.captured.Kept.TheVariants as keeps
 use Rattle.capture.specs.declared.captured.Stored.{Stored}
 use Rattle.archive_shelf.proofs.ComparingLaws.{payload_later, placed_later}
-use Rattle.archive_shelf.specs.Comparing.{KeepsWire}
-use Rattle.archive_shelf.specs.Digests.{HasDigestOf}
+use Rattle.archive_shelf.specs.Comparing.{HasDigestOf, KeepsWire}
 use Rattle.archive_volumes.proofs.GroupPlaces.{each_ends, ends_in_text, group_at_later, in_volume_later}
 use Rattle.warc_text.specs.Books.{IsGroupText}
 use Rattle.archive_volumes.specs.Spots.{AreHeldWhole, ArePlaced, AreSpotsOf, AreWithin, HasGroupAt, HasOwnDigest, HasPlace, IsFoundById, IsPlaced, IsSpotOf, RefersBack, form_of, is_told_form, may_be_whole, part, spot_of, text_at, whole_from}
