@@ -33,8 +33,8 @@ use Rattle.warc_text.specs.Lengths.{request_length}
 use Rattle.archive_shelf.proofs.GainingSoundness.{no_volumes}
 use Rattle.archive_shelf.proofs.StoringLaws.{captures_more}
 use Rattle.archive_shelf.specs.Answers.{HasStored, HasVolumeAlone}
-use Rattle.archive_shelf.specs.Comparing.{CanRefer, RefersBy}
-use Rattle.archive_shelf.specs.Contents.{Contents}
+use Rattle.archive_shelf.specs.Comparing.{CanRefer, RefersAsShown, RefersBy, RefersByDigest}
+use Rattle.archive_shelf.specs.Contents.{Contents, LeadsShown}
 use Rattle.archive_shelf.specs.Entering.{TellsOfNew}
 use Rattle.archive_shelf.specs.Gaining.{VolumesAddTheirText}
 use Rattle.archive_shelf.specs.Openings.{HasJust, IsState}
@@ -51,6 +51,7 @@ use Rattle.archive_core.specs.Holdings.{AreLimits, Holdings, IsArchive, contents
 use Rattle.archive_core.specs.Looking.{IsDigestOf, RefersTo}
 use Rattle.archive_volumes.specs.Ready.{CanCommit, Incoming, IsReady, record_in, spot_in}
 use Rattle.archive_index.specs.Shown.{numbered}
+use Rattle.archive_payloads.specs.Choosing.{IsKeptWith}
 use Rattle.archive_volumes.specs.Spots.{AreHeldWhole, ArePlaced, AreSpotsOf, AreWithin, text_at, whole_from}
 use Rattle.archive_core.specs.Stores.{FillsVolumes, Stores}
 use Rattle.archive_core.specs.Told.{told_of}
@@ -73,7 +74,9 @@ use Rattle.archive_core.proofs.StoredLaws.{archive_left, archive_stored}
 use Rattle.archive_volumes.proofs.TakenGroup.{IsGroupWith}
 use Rattle.archive_volumes.proofs.WrittenLaws.{rests_itself, texts_done, texts_refused}
 use Rattle.archive_volumes.proofs.WayLaws.{by_rule, group_with, needed_by, room_captures, room_gains, room_namespace, room_some, way}
+use Rattle.archive_core.proofs.MatchLaws.{digest_by}
 use Rattle.archive_core.proofs.NamedLaws.{named_after, named_same, numbered_new}
+use Rattle.archive_core.proofs.ReferLaws.{refers_as_shown, refers_by_digest}
 
 -- ---- without memory: all is as it was, but for what is reserved
 
@@ -182,17 +185,18 @@ pub record IsUnderWay {D : Type 0} (d : Ghosts D) (was : Holdings D) (now : Volu
   pub has : HasPayload incoming.taken.cut incoming.taken.method incoming.taken.head incoming.taken.wire payload
   pub digested : incoming.digest ≡ sha1 payload
   pub refers : CanRefer incoming.taken.cut (book_of now.held) incoming.same
+  pub kept : IfSome incoming.same (IsKeptWith was.spots incoming.digest)
   pub finds : IsTrue was.told → RefersBy incoming.taken.cut (book_of now.held) (length (captures (book_of now.held))) payload incoming.same
   pub ready_is : IsReady now now was.limits.volume_bytes incoming payload ready
 
 under_way_from : {D : Type 0} (d : Ghosts D) → StoringBasis → (was : Holdings D) (old now : Volumes D) (incoming : Incoming) (ready : Ready)
     → was.journal ≡ old.journal → was.book ≡ book_of old.held → IsArchive d was → Fits incoming.taken
     → length (captures was.book) < was.limits.captures → IsDigestOf incoming.taken incoming.digest
-    → RefersTo (contents_of was) incoming.taken incoming.same
+    → RefersTo (contents_of was) incoming.taken incoming.same → IfSome incoming.same (IsKeptWith was.spots incoming.digest)
     → now.journal ≡ old.journal → book_of now.held ≡ book_of old.held
     → ((payload : List ℕ) → incoming.digest ≡ sha1 payload → IsReady old now was.limits.volume_bytes incoming payload ready)
     → IsUnderWay d was now incoming ready
-under_way_from {D} d basis was old now incoming ready old_journal old_book archive fits not_full digest refers journal_is book_is ready_is =
+under_way_from {D} d basis was old now incoming ready old_journal old_book archive fits not_full digest refers kept journal_is book_is ready_is =
     let there = has_one basis.whole basis.cut incoming.taken fits in
     let same_book : book_of now.held ≡ was.book = book_is ∙ sym old_book in
     let same : in_volumes was now ≡ was = same_holdings was now (journal_is ∙ sym old_journal) same_book in
@@ -205,6 +209,7 @@ under_way_from {D} d basis was old now incoming ready old_journal old_book archi
       has = there.has;
       digested = digested;
       refers = subst (λ (b : Book). CanRefer incoming.taken.cut b incoming.same) (sym same_book) refers.can;
+      kept = kept;
       finds = λ told.
           let does = refers.does told in
           subst (λ (b : Book). RefersBy incoming.taken.cut b (length (captures b)) there.payload incoming.same) (sym same_book)
@@ -218,14 +223,15 @@ under_way_from {D} d basis was old now incoming ready old_journal old_book archi
 pub under_way : {D : Type 0} (d : Ghosts D) → StoringBasis → (seen was : Holdings D) (old now : Volumes D) (incoming : Incoming) (ready : Ready)
     → was ≡ seen → was.journal ≡ old.journal → was.book ≡ book_of old.held → IsArchive d was → Fits incoming.taken
     → length (captures seen.book) < seen.limits.captures → IsDigestOf incoming.taken incoming.digest
-    → RefersTo (contents_of seen) incoming.taken incoming.same
+    → RefersTo (contents_of seen) incoming.taken incoming.same → IfSome incoming.same (IsKeptWith seen.spots incoming.digest)
     → now.journal ≡ old.journal → book_of now.held ≡ book_of old.held
     → ((payload : List ℕ) → incoming.digest ≡ sha1 payload → IsReady old now was.limits.volume_bytes incoming payload ready)
     → IsUnderWay d was now incoming ready
-under_way {D} d basis seen was old now incoming ready seen_is old_journal old_book archive fits not_full digest refers =
+under_way {D} d basis seen was old now incoming ready seen_is old_journal old_book archive fits not_full digest refers kept =
     under_way_from d basis was old now incoming ready old_journal old_book archive fits
     (subst (λ (held : Holdings D). length (captures held.book) < held.limits.captures) (sym seen_is) not_full) digest
     (subst (λ (held : Holdings D). RefersTo (contents_of held) incoming.taken incoming.same) (sym seen_is) refers)
+    (subst (λ (held : Holdings D). IfSome incoming.same (IsKeptWith held.spots incoming.digest)) (sym seen_is) kept)
 
 -- what is handed back is what was handed over
 pub handed_back : {D : Type 0} (old now : Volumes D) (limit : ℕ) (incoming : Incoming) (ready back : Ready) → back ≡ ready
@@ -538,13 +544,20 @@ module _ {D : Type 0} (d : Ghosts D) (basis : StoringBasis) (was : Holdings D) (
         has_stored receipt number_is same_is =
             let count : length (captures after) ≡ number + 1 =
             omega (arith, ap (λ (l : List Stored). length l) gains, length-append (captures book) (stored ∷ [])) in
+            let of : IsDigestOf incoming.taken incoming.digest = digest_by basis.one incoming.taken incoming.digest u.payload u.has u.digested in
             let mine = mine_more was.found number (length (captures after)) receipt.number u.is.counted.found count number_is in
+            let leads : LeadsShown true (Some number) (numbered was.index) (numbered index) =
+            subst (λ (l : List Facts). LeadsShown true (Some number) (numbered was.index) (numbered l)) (sym index_is) (shown_by number entry was.index numbered_so below) in
             record {
               found = book;
               led = refl;
               not_full = u.not_full;
               number = number_is;
               refers = subst (λ (same : Option ℕ). CanRefer incoming.taken.cut book same) (sym same_is) u.refers;
+              by_digest = subst (λ (same : Option ℕ). RefersByDigest book incoming.taken same) (sym same_is)
+                  (refers_by_digest d (in_volumes was now) u.is incoming.digest incoming.taken of incoming.same u.refers u.kept);
+              as_shown = subst (λ (same : Option ℕ). RefersAsShown (numbered index) incoming.taken same) (sym same_is)
+                  (refers_as_shown d (in_volumes was now) u.is incoming.digest incoming.taken of incoming.same (numbered index) u.refers u.kept leads);
               gained = subst (λ (same : Option ℕ). Gains book (as_stored incoming.taken same) after) (sym same_is) (record {
                 room = room;
                 roomy = roomy_by book ready.prepared incoming.taken.date some u.ready_is.born;
@@ -553,9 +566,7 @@ module _ {D : Type 0} (d : Ghosts D) (basis : StoringBasis) (was : Holdings D) (
               by_rule = λ told.
                   by_rule d now.journal book incoming.taken u.payload incoming.same ready.group told u.is.holds u.has (u.finds told) u.ready_is.group
                   basis.groups u.is.measured.count was.limits.volume_bytes ready.prepared u.ready_is.born u.ready_is.decided receipt after same_is stored_is;
-              shown = subst (λ (k : ℕ). (numbered index ≡ numbered was.index) ⊎ ((e : Facts) × (e.number ≡ k) × (numbered index ≡ numbered was.index ++ e ∷ []))) (sym number_is)
-                  (subst (λ (l : List Facts). (numbered l ≡ numbered was.index) ⊎ ((e : Facts) × (e.number ≡ number) × (numbered l ≡ numbered was.index ++ e ∷ []))) (sym index_is)
-                  (shown_by number entry was.index numbered_so below));
+              shown = subst (λ (k : ℕ). LeadsShown true (Some k) (numbered was.index) (numbered index)) (sym number_is) leads;
               others = λ i. record {
                 tells = was.told;
                 seen = after;

@@ -14,6 +14,7 @@ pub mod PayloadLaws
 pub mod PieceLaws
 pub mod ReadLaws
 pub mod ReadyLaws
+pub mod ReferLaws
 pub mod SettlingLaws
 pub mod ShelfLaws
 pub mod StoodLaws

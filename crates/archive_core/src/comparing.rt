@@ -1,16 +1,17 @@
 //! How a payload is compared with those of the captures, and which earlier capture a new one refers to.
-ghost use Rattle.std.specs.Prelude.{◌≡◌, ℕ, Bool, List, None, false, IsTrue, OnOk, IfOk, IfSome, length};
+ghost use Rattle.std.specs.Prelude.{◌≡◌, ◌⊎◌, ℕ, ◌<◌, Bool, List, None, false, IsTrue, OnOk, IfOk, IfSome, length};
 ghost use Rattle.sha1.specs.Sha1.{sha1};
 ghost use Rattle.warc_journal.specs.Journals.{disk_of};
 ghost use Rattle.warc_text.specs.Sound.{IsSound};
 ghost use Rattle.archive_shelf.specs.Answers.{CountsIf};
 ghost use Rattle.archive_shelf.specs.Comparing.{IsRight};
-ghost use Rattle.archive_payloads.specs.Choosing.{LooksOn, NoneDamagedBelow, is_look_fault};
+ghost use Rattle.archive_payloads.specs.Choosing.{IsKeptWith, LooksOn, NoneDamagedBelow, is_look_fault};
 ghost use Rattle.archive_core.specs.Holdings.{contents_of};
-ghost use Rattle.archive_core.specs.Looking.{IsDigestOf, IsFoundThere, IsRightOf, Looks, LooksFor, OnlyLooks, RefersThere};
+ghost use Rattle.archive_core.specs.Looking.{IsDigestOf, IsFoundThere, IsRightOf, Looks, LooksFor, OnlyLooks, RefersThere, RefersTo};
 ghost use Rattle.capture.specs.Body.{IsWire};
 ghost use Rattle.capture.specs.Captures.{captures, HasPayload};
 ghost use Rattle.capture.specs.Payload.{IsPayload};
+ghost use Rattle.capture.specs.declared.captured.Taken.{Taken as TakenValue};
 ghost use Rattle.warc_text.specs.Fits.{Fits};
 ghost use Rattle.archive_core.specs.Matching.{FindsAmongAll, IsFramedBy};
 
@@ -18,6 +19,7 @@ use crate::Archive;
 use archive_payloads::look_on_wire;
 use archive_reading::framing_behind;
 use archive_shelf::{Looked, StoreFault};
+use archive_volumes::Spot;
 use capture::{Digest, Framing, Memory, Taken, wires_have_one_payload};
 use disk_model::Disk;
 use message_body::{Payload, PayloadFault, Slices, payload_in};
@@ -130,7 +132,37 @@ pub(crate) fn digest_of_wire(framing: Framing, wire: &[u8]) -> Digest
     }
 }
 
+/// The capture that was found for a new one, if this digest is kept of it.
+fn kept_with(spots: &[Spot], digest: &Digest, found: Option<u32>) -> Option<u32>
+    requires below { IfSome found (λ number. number < length spots.now) }
+    ensures one { (result ≡ found) ⊎ (result ≡ None) }
+    ensures kept { IfSome result (IsKeptWith spots.now digest.now) }
+    ensures all { IfSome found (IsKeptWith spots.now digest.now) → result ≡ found }
+{
+    match found {
+        Some(number) => {
+            let spot = &spots[number as usize];
+            if spot.digest != *digest {
+                return None;
+            }
+            Some(number)
+        }
+        None => None,
+    }
+}
+
 impl<D: Disk> Archive<D> {
+    /// The capture that was found for a new one, if it has the digest of the new one's payload. Where the book is told it has: else who found
+    /// it may have been mistaken, and the new one keeps its own payload.
+    pub(crate) fn still_found(&self, digest: &Digest, found: Option<u32>) -> Option<u32>
+        requires below { IfSome found (λ number. number < length (captures self.now.book)) }
+        ensures one { (result ≡ found) ⊎ (result ≡ None) }
+        ensures kept { IfSome result (IsKeptWith self.now.spots digest.now) }
+        ensures refers { (taken : TakenValue) → IsDigestOf taken digest.now → RefersTo (contents_of self.now) taken found → RefersTo (contents_of self.now) taken result }
+    {
+        kept_with(self.spots.as_slice(), digest, found)
+    }
+
     /// The first of all captures that has the payload of this whole wire; those that weren't looked at before are read.
     fn same_with(
         &mut self,

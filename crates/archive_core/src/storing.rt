@@ -1,9 +1,9 @@
 //! How a capture is stored whose payload was compared.
-ghost use Rattle.std.specs.Prelude.{length, ◌<◌, ◌≡◌, ℕ, IfOk, None, is_some, if◌then◌else◌};
+ghost use Rattle.std.specs.Prelude.{length, ◌<◌, ◌≡◌, ℕ, IfOk, IfSome, None, is_some, if◌then◌else◌};
 ghost use Rattle.capture.specs.Captures.{captures};
 ghost use Rattle.warc_text.specs.Fits.{Fits};
 ghost use Rattle.archive_core.specs.Basis.{StoringBasis};
-ghost use Rattle.archive_payloads.specs.Choosing.{NoneDamagedBelow};
+ghost use Rattle.archive_payloads.specs.Choosing.{IsKeptWith, NoneDamagedBelow};
 ghost use Rattle.archive_core.specs.Holdings.{contents_of};
 ghost use Rattle.archive_core.specs.Looking.{IsDigestOf, IsRightOf, RefersThere, RefersTo};
 ghost use Rattle.archive_core.specs.Stores.{Stores};
@@ -59,6 +59,7 @@ impl<D: Disk> Archive<D> {
         requires fits { Fits taken.now }
         requires digest { IsDigestOf taken.now digest.now }
         requires refers { RefersTo (contents_of self.old) taken.now same }
+        requires kept { IfSome same (IsKeptWith self.old.spots digest.now) }
         ensures stores { Stores D.Disk self.old self.new taken.now result }
         ensures same { IfOk result (λ receipt. receipt.same_as ≡ same) }
         ensures unread { (number : ℕ) → NoneDamagedBelow number result }
@@ -90,7 +91,7 @@ impl<D: Disk> Archive<D> {
         }
     }
 
-    /// Stores a capture in an archive that isn't full.
+    /// Stores a capture in an archive that isn't full. What was found before is taken only with the digest of the capture's payload.
     fn store_looked(
         &mut self,
         alloc: Global,
@@ -107,7 +108,8 @@ impl<D: Disk> Archive<D> {
         ensures since { NoneDamagedBelow looked.upto result }
     {
         let same = self.same_of(alloc, taken, digest, looked)?;
-        self.store_compared(alloc, taken, digest, same)
+        let kept = self.still_found(digest, same);
+        self.store_compared(alloc, taken, digest, kept)
     }
 
     /// Stores a capture whose payload was looked for before, by `compare`: of that, `looked` may be an earlier answer. The answer

@@ -67,7 +67,7 @@ readied : (g : Over) (c : goal.After-ready-2-1 g)
 readied g c =
     laws.under_way g.D.Disk c.storing_has_a_basis.ensures c.args.self.now (holdings_of c.self.inside) c.self.inside.volumes c.make_ready.new.self
     (incoming_of c.args.taken.now c.args.digest.now c.args.same) c.in_ok-ready.ready c.self.view_is
-    refl refl c.self.invariant c.requires.fits c.requires.not_full c.requires.digest c.requires.refers c.make_ready.ensures.journal
+    refl refl c.self.invariant c.requires.fits c.requires.not_full c.requires.digest c.requires.refers c.requires.kept c.make_ready.ensures.journal
     c.make_ready.ensures.book c.in_ok-ready.ensures.ready
 
 pub record_at-at-requires-clause-measured : goal.record_at-at-requires-clause-measured
@@ -82,7 +82,7 @@ placed : (g : Over) (c : goal.After-as_slice-2 g)
 placed g c =
     laws.under_way g.D.Disk c.storing_has_a_basis.ensures c.args.self.now (holdings_of c.self.inside) c.self.inside.volumes c.make_ready.new.self
     (incoming_of c.args.taken.now c.args.digest.now c.args.same) c.in_ok-ready.ready c.self.view_is
-    refl refl c.self.invariant c.requires.fits c.requires.not_full c.requires.digest c.requires.refers c.make_ready.ensures.journal
+    refl refl c.self.invariant c.requires.fits c.requires.not_full c.requires.digest c.requires.refers c.requires.kept c.make_ready.ensures.journal
     c.make_ready.ensures.book c.in_ok-ready.ensures.ready
 
 pub enter_ready-requires-clause-date : goal.enter_ready-requires-clause-date
@@ -120,7 +120,7 @@ entering : (g : Over) (c : goal.After-commit-arg-4-1 g)
 entering g c =
     laws.under_way g.D.Disk c.storing_has_a_basis.ensures c.args.self.now (holdings_of c.self.inside) c.self.inside.volumes c.make_ready.new.self
     (incoming_of c.args.taken.now c.args.digest.now c.args.same) c.in_ok-entered.entered c.self.view_is
-    refl refl c.self.invariant c.requires.fits c.requires.not_full c.requires.digest c.requires.refers c.make_ready.ensures.journal
+    refl refl c.self.invariant c.requires.fits c.requires.not_full c.requires.digest c.requires.refers c.requires.kept c.make_ready.ensures.journal
     c.make_ready.ensures.book (laws.handed_back c.self.inside.volumes c.make_ready.new.self c.self.inside.limits.volume_bytes
     (incoming_of c.args.taken.now c.args.digest.now c.args.same) c.in_ok-ready.ready c.in_ok-entered.entered c.in_ok-entered.ensures.same
     c.in_ok-ready.ensures.ready)
@@ -194,7 +194,7 @@ invariant_of-self-in-Err g c =
     let now = c.make_ready.new.self in
     let ready = c.in_ok-entered.entered in
     let u = laws.under_way g.D.Disk c.storing_has_a_basis.ensures c.args.self.now was c.self.inside.volumes now (incoming_of c.args.taken.now c.args.digest.now c.args.same) ready c.self.view_is
-    refl refl c.self.invariant c.requires.fits c.requires.not_full c.requires.digest c.requires.refers c.make_ready.ensures.journal
+    refl refl c.self.invariant c.requires.fits c.requires.not_full c.requires.digest c.requires.refers c.requires.kept c.make_ready.ensures.journal
     c.make_ready.ensures.book (laws.handed_back c.self.inside.volumes now was.limits.volume_bytes (incoming_of c.args.taken.now c.args.digest.now c.args.same) c.in_ok-ready.ready ready c.in_ok-entered.ensures.same
     c.in_ok-ready.ensures.ready) in
     let has = c.in_ok-entered.ensures.entered in
@@ -220,7 +220,7 @@ returns-in-Err-clause-stores g c =
     let now = c.make_ready.new.self in
     let ready = c.in_ok-entered.entered in
     let u = laws.under_way g.D.Disk c.storing_has_a_basis.ensures c.args.self.now was c.self.inside.volumes now (incoming_of c.args.taken.now c.args.digest.now c.args.same) ready c.self.view_is
-    refl refl c.self.invariant c.requires.fits c.requires.not_full c.requires.digest c.requires.refers c.make_ready.ensures.journal
+    refl refl c.self.invariant c.requires.fits c.requires.not_full c.requires.digest c.requires.refers c.requires.kept c.make_ready.ensures.journal
     c.make_ready.ensures.book (laws.handed_back c.self.inside.volumes now was.limits.volume_bytes (incoming_of c.args.taken.now c.args.digest.now c.args.same) c.in_ok-ready.ready ready c.in_ok-entered.ensures.same
     c.in_ok-ready.ensures.ready) in
     let has = c.in_ok-entered.ensures.entered in
@@ -266,7 +266,7 @@ invariant_of-self-in-Ok g c =
     let now = c.make_ready.new.self in
     let ready = c.in_ok-entered.entered in
     let u = laws.under_way g.D.Disk c.storing_has_a_basis.ensures c.args.self.now was c.self.inside.volumes now (incoming_of c.args.taken.now c.args.digest.now c.args.same) ready c.self.view_is
-    refl refl c.self.invariant c.requires.fits c.requires.not_full c.requires.digest c.requires.refers c.make_ready.ensures.journal
+    refl refl c.self.invariant c.requires.fits c.requires.not_full c.requires.digest c.requires.refers c.requires.kept c.make_ready.ensures.journal
     c.make_ready.ensures.book (laws.handed_back c.self.inside.volumes now was.limits.volume_bytes (incoming_of c.args.taken.now c.args.digest.now c.args.same) c.in_ok-ready.ready ready c.in_ok-entered.ensures.same
     c.in_ok-ready.ensures.ready) in
     let has = c.in_ok-entered.ensures.entered in
@@ -292,7 +292,7 @@ returns-in-Ok-clause-stores g c =
     let now = c.make_ready.new.self in
     let ready = c.in_ok-entered.entered in
     let u = laws.under_way g.D.Disk c.storing_has_a_basis.ensures c.args.self.now was c.self.inside.volumes now (incoming_of c.args.taken.now c.args.digest.now c.args.same) ready c.self.view_is
-    refl refl c.self.invariant c.requires.fits c.requires.not_full c.requires.digest c.requires.refers c.make_ready.ensures.journal
+    refl refl c.self.invariant c.requires.fits c.requires.not_full c.requires.digest c.requires.refers c.requires.kept c.make_ready.ensures.journal
     c.make_ready.ensures.book (laws.handed_back c.self.inside.volumes now was.limits.volume_bytes (incoming_of c.args.taken.now c.args.digest.now c.args.same) c.in_ok-ready.ready ready c.in_ok-entered.ensures.same
     c.in_ok-ready.ensures.ready) in
     let has = c.in_ok-entered.ensures.entered in

@@ -5,8 +5,10 @@ use Rattle.capture.specs.Captures.{captures}
 use Rattle.archive_core.specs.Holdings.{Holdings}
 use Rattle.archive_core.proofs.AfterLaws.{fault_exit, stores_after}
 use Rattle.archive_volumes.proofs.ChangeLaws.{DiskLaws}
+use Rattle.archive_volumes.proofs.KeepLaws.{refers_within}
 use Rattle.archive_payloads.proofs.SinceLaws.{since_exit}
 use Rattle.archive_core.proofs.archive.Archive.store_looked.Given.{Over}
+use Rattle.archive_core.proofs.ReferLaws.{there_still}
 use Rattle.archive_core.proofs.ThereLaws.{receipt_there}
 use Rattle.archive_core.proofs.archive.Archive.store_looked.Goals as goal
 
@@ -18,6 +20,14 @@ pub returns-in_err-same-clause-stores : goal.returns-in_err-same-clause-stores
 returns-in_err-same-clause-stores g c =
     fault_exit g.D.Disk (disk_laws g) c.args.self.now c.same_of.new.self c.args.taken.now c.in_err-same.field-0.0 c.from_residual.result
     c.from_residual.ensures.1 c.in_err-same.ensures.looks c.requires.not_full c.in_err-same.ensures.refers c.in_err-same.ensures.faults
+
+pub still_found-kept-requires : goal.still_found-kept-requires
+still_found-kept-requires g c = record {
+  below = refers_within c.args.taken.now.cut c.same_of.new.self.book c.in_ok-same.same c.in_ok-same.ensures.refers.can;
+}
+
+pub store_compared-requires-clause-refers : goal.store_compared-requires-clause-refers
+store_compared-requires-clause-refers g c = c.still_found-kept.ensures.refers c.args.taken.now c.requires.digest c.in_ok-same.ensures.refers
 
 pub store_compared-requires-clause-not_full : goal.store_compared-requires-clause-not_full
 store_compared-requires-clause-not_full g c =
@@ -37,4 +47,6 @@ returns-clause-since g c = c.store_compared.ensures.unread c.args.looked.upto
 
 pub returns-clause-there : goal.returns-clause-there
 returns-clause-there g c none =
-    receipt_there g.D.Disk c.args.self.now c.args.taken.now c.in_ok-same.same c.store_compared.result c.store_compared.ensures.same (c.in_ok-same.ensures.there none)
+    receipt_there g.D.Disk c.args.self.now c.args.taken.now c.still_found-kept.result c.store_compared.result c.store_compared.ensures.same
+    (there_still g.D.Disk c.args.self.now c.args.taken.now c.in_ok-same.same c.still_found-kept.result c.still_found-kept.ensures.one
+    (c.in_ok-same.ensures.there none))

@@ -1,6 +1,6 @@
 -- It is full, or there is no memory, or a fault was met while the disk was read, or a store follows.
 use Rattle.std.proofs.Common.{ℕ, List, refl, sym, ap, subst}
-use Rattle.std.specs.Prelude.{length, ◌<◌}
+use Rattle.std.specs.Prelude.{length, ◌<◌, IfSome}
 use Rattle.capture.specs.Captures.{captures}
 use Rattle.capture.specs.Payload.{IsPayload}
 use Rattle.archive_shelf.specs.declared.looked.Looked.{Looked}
@@ -9,7 +9,10 @@ use Rattle.archive_core.proofs.AfterLaws.{fault_exit, full_exit, stores_after}
 use Rattle.archive_volumes.proofs.ChangeLaws.{DiskLaws}
 use Rattle.archive_core.proofs.ExitLaws.{memory_exit}
 use Rattle.archive_core.proofs.archive.Archive.store_new.Given.{Over}
+use Rattle.archive_core.proofs.PayloadLaws.{has_one}
+use Rattle.archive_core.proofs.ReferLaws.{kept_there}
 use Rattle.archive_core.proofs.ThereLaws.{receipt_there}
+use Rattle.archive_payloads.specs.Choosing.{IsKeptWith}
 use Rattle.archive_core.proofs.archive.Archive.store_new.Goals as goal
 
 -- what is asked of the disk
@@ -50,6 +53,16 @@ store_compared-requires-clause-digest g c payload has =
     let taken = c.args.taken.now in
     c.digest_of_wire-digest.ensures taken.cut payload
     (subst (λ (w : List ℕ). IsPayload taken.cut c.in_ok-framing.framing w payload) (sym c.as_slice.ensures) (c.in_ok-framing.ensures.needs payload has))
+
+pub store_compared-requires-clause-kept : goal.store_compared-requires-clause-kept
+store_compared-requires-clause-kept g c =
+    let taken = c.args.taken.now in
+    let same = c.in_ok-same.same in
+    let digest = c.digest_of_wire-digest.result in
+    let there = has_one c.wires_have_one_payload.ensures.whole c.wires_have_one_payload.ensures.cut taken c.requires.fits in
+    subst (λ (held : Holdings _). IfSome same (IsKeptWith held.spots digest)) (sym c.in_ok-same.ensures.looks.others)
+    (kept_there g.D.Disk c.args.self.now taken there.payload digest same there.has (store_compared-requires-clause-digest g c)
+    (c.in_ok-same.ensures.there (ap (λ (l : Looked). l.same) c.none.ensures.value)))
 
 pub returns-clause-stores : goal.returns-clause-stores
 returns-clause-stores g c =
