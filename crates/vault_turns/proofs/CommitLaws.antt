@@ -1,6 +1,7 @@
 -- The committing turn of a store.
 use Rattle.std.proofs.Common.{◌≡◌, ◌≢◌, ◌⊎◌, ℕ, suc, ◌+◌, ◌<◌, ◌≤◌, Bool, true, false, not, IsTrue, List, [], ◌∷◌, ◌++◌, length, Option, Result, Ok, Err, refl, sym, ap, subst, ◌∙◌, inl, inr, arith}
-use Rattle.std.specs.Prelude.{MatchBool}
+use Rattle.std.specs.Prelude.{Contains, IfOk, MatchBool, Some, None}
+use Rattle.std.proofs.lemmas.List.Elements.{Contains-append_left}
 use Rattle.std.proofs.lemmas.List.{length-append}
 use Rattle.capture.specs.Captures.{captures}
 use Rattle.capture.specs.declared.book.Book.{Book}
@@ -12,14 +13,16 @@ use Rattle.disk_model.specs.declared.disk.Disk.{Ghosts}
 use Rattle.warc_journal.specs.Journals.{disk_of}
 use Rattle.warc_text.specs.Sound.{IsSound}
 use Rattle.archive_shelf.specs.Answers.{HasVolumeAlone, IsByRule, StoreLeaves}
-use Rattle.archive_shelf.specs.Contents.{Contents}
-use Rattle.archive_shelf.specs.Comparing.{CanRefer}
+use Rattle.archive_shelf.specs.Contents.{Contents, LeadsShown}
+use Rattle.archive_shelf.specs.Comparing.{CanRefer, RefersAsShown, RefersByDigest}
 use Rattle.archive_shelf.specs.Storing.{Gains, add_to_last, as_stored, new_volume, with_capture, with_volume}
 use Rattle.archive_shelf.specs.declared.fault.StoreFault.{StoreFault}
 use Rattle.archive_shelf.specs.declared.fault.StoreFault.TheVariants as stores
 use Rattle.archive_shelf.specs.declared.receipt.Receipt.{Receipt}
 use Rattle.archive_core.specs.Holdings.{Holdings, contents_of}
 use Rattle.archive_core.specs.Stores.{Stores}
+use Rattle.archive_index.specs.Shown.{numbered}
+use Rattle.index_entry.specs.Facts.{Facts}
 use Rattle.history_lock.specs.Seen.{Adds, All}
 use Rattle.vault_turns.specs.Guarded.{Stands}
 use Rattle.vault_turns.specs.History.{after_kind, book_after, by_of, is_told, told_book, told_limits}
@@ -168,6 +171,7 @@ module _ {D : Type 0} (tells : Bool) (by : ℕ) (taken : Taken) (history : List 
               (subst (λ (b : Book). length (captures b) < was.limits.captures) from left.not_full);
           number = left.number ∙ ap (λ (b : Book). length (captures b)) from;
           refers = subst (λ (b : Book). CanRefer taken.cut b receipt.same_as) from left.refers;
+          by_digest = subst (λ (b : Book). RefersByDigest b taken receipt.same_as) from left.by_digest;
           gained = subst (λ (b : Book). Gains (told_book history) stored b) book (subst (λ (b : Book). Gains b stored is.book) from left.gained);
           by_rule = λ told. subst (λ (b : Book). IsByRule (told_limits history).volume_bytes (told_book history) taken receipt b) book
               (subst (λ (l : Limits). IsByRule l.volume_bytes (told_book history) taken receipt is.book) stands.limits
@@ -271,13 +275,51 @@ tells_left taken was is (Err stores.DiskFault) left = ap (λ (c : Contents). c.t
 tells_left taken was is (Err (stores.Damaged number kept found)) left = ap (λ (c : Contents). c.tells) left.0.others
 tells_left taken was is (Err stores.Memory) left = ap (λ (c : Contents). c.tells) left.others
 
+-- ---- where fewer entries are shown
+
+refers_fewer : (taken : Taken) (same : Option ℕ) (more fewer : List Facts) → ((e : Facts) → Contains fewer e → Contains more e)
+    → RefersAsShown more taken same → RefersAsShown fewer taken same
+refers_fewer taken None more fewer from refers = λ payload has. tt
+refers_fewer taken (Some number) more fewer from refers = λ payload has entry shown at. refers payload has entry (from entry shown) at
+
+shown_fewer : (taken : Taken) (result : Result Receipt StoreFault) (more fewer : List Facts) → ((e : Facts) → Contains fewer e → Contains more e)
+    → IfOk result (λ receipt. RefersAsShown more taken receipt.same_as) → IfOk result (λ receipt. RefersAsShown fewer taken receipt.same_as)
+shown_fewer taken (Ok receipt) more fewer from refers = refers_fewer taken receipt.same_as more fewer from refers
+shown_fewer taken (Err fault) more fewer from refers = tt
+
+pub commits_fewer : (by : ℕ) (before after : List Noted) (tells : Bool) (taken : Taken) (result : Result Receipt StoreFault) (more fewer : List Facts)
+    → ((e : Facts) → Contains fewer e → Contains more e) → Adds by_of by before after (λ added. Commits tells more taken before added result)
+    → Adds by_of by before after (λ added. Commits tells fewer taken before added result)
+commits_fewer by before after tells taken result more fewer from adds = record {
+  added = adds.added;
+  is_before_and_added = adds.is_before_and_added;
+  of_pass = adds.of_pass;
+  done = record {
+    answers = adds.done.answers;
+    shown = shown_fewer taken result more fewer from adds.done.shown;
+    sound = adds.done.sound;
+  };
+}
+
+-- what was shown before is shown still
+shown_still : (number : ℕ) (old new : List Facts) → LeadsShown true (Some number) old new → (e : Facts) → Contains old e → Contains new e
+shown_still number old new (inl same) e has = subst (λ (l : List Facts). Contains l e) (sym same) has
+shown_still number old new (inr more) e has = subst (λ (l : List Facts). Contains l e) (sym more.2) (Contains-append_left old (more.0 ∷ []) e has)
+
+shown_left : {D : Type 0} (taken : Taken) (was is : Holdings D) (result : Result Receipt StoreFault)
+    → StoreLeaves true taken (contents_of was) (contents_of is) result → IfOk result (λ receipt. RefersAsShown (numbered was.index) taken receipt.same_as)
+shown_left taken was is (Ok receipt) left =
+    refers_fewer taken receipt.same_as (numbered is.index) (numbered was.index) (shown_still receipt.number (numbered was.index) (numbered is.index) left.shown)
+    left.as_shown
+shown_left taken was is (Err fault) left = tt
+
 module _ {D : Type 0} (d : Ghosts D) (by : ℕ) (taken : Taken) (history after : List Noted) (was is : Holdings D)
     (result : Result Receipt StoreFault) (began : Bool) (stands : Stands history was) (met : AreCounted history (d.faults (disk_of was.journal))) where
   -- a store that was made, noted
   pub all_committed : Stores d was is taken result → Tells was.book is.book began → (IsTrue is.told → IsSound is.book)
       → Noting history after (λ added. Notes by taken began result added)
       → (Stands after is × AreCounted after (d.faults (disk_of is.journal)))
-      × Adds by_of by history after (λ added. Commits (is_told history) taken history added result)
+      × Adds by_of by history after (λ added. Commits (is_told history) (numbered was.index) taken history added result)
   all_committed store counted sound noting =
       let told_is : is.told ≡ was.told = tells_left taken was is result store.told.leaves in
       let left : StoreLeaves true taken (as_told (is_told history) was) (as_told (is_told history) is) result =
@@ -296,6 +338,7 @@ module _ {D : Type 0} (d : Ghosts D) (by : ℕ) (taken : Taken) (history after :
           of_pass = c.of_pass;
           done = record {
             answers = c.answers;
+            shown = shown_left taken was is result store.told.leaves;
             sound = λ told. subst IsSound c.stands.book (sound (subst (λ (t : Bool). IsTrue t) (sym (told_is ∙ stands.told)) told));
           };
         },

@@ -5,6 +5,7 @@ pub mod NotingLaws
 pub mod CalmLaws
 pub mod CommitLaws
 pub mod ReadLaws
+pub mod SeenLaws
 pub mod FirstLaws
 pub mod TellingLaws
 pub mod GatherLaws

@@ -7,6 +7,7 @@ use Rattle.warc_text.specs.Fits.{Fits}
 use Rattle.archive_shelf.specs.declared.fault.StoreFault.{StoreFault}
 use Rattle.archive_shelf.specs.declared.receipt.Receipt.{Receipt}
 use Rattle.archive_core.specs.Looking.{IsDigestOf}
+use Rattle.index_entry.specs.Facts.{Facts}
 use Rattle.vault_turns.specs.Turns.{Commits, Compares}
 use Rattle.vault_turns.specs.declared.first_turn.FirstAnswer.{FirstAnswer}
 use Rattle.vault_turns.specs.declared.first_turn.FirstAnswer.TheVariants.{Whole, Compared}
@@ -22,7 +23,7 @@ abbrev pub IsRefused : Bool → List ℕ → List Noted → List Noted → Resul
 IsRefused tells payload found added result =
     (fault : StoreFault) × (result ≡ Err fault) × Compares tells payload found added (Err fault)
 
--- what the first turn finds, adds and answers: all that the store does, or what was found of its payload
-abbrev pub Begins : Bool → Taken → List ℕ → List Noted → List Noted → FirstAnswer → Type 0
-Begins tells taken payload found added (Whole result) = IsRefused tells payload found added result ⊎ Commits tells taken found added result
-Begins tells taken payload found added (Compared looked) = Compares tells payload found added (Ok looked)
+-- what the first turn finds, adds and answers, where these entries are shown: all that the store does, or what was found of its payload
+abbrev pub Begins : Bool → List Facts → Taken → List ℕ → List Noted → List Noted → FirstAnswer → Type 0
+Begins tells entries taken payload found added (Whole result) = IsRefused tells payload found added result ⊎ Commits tells entries taken found added result
+Begins tells entries taken payload found added (Compared looked) = Compares tells payload found added (Ok looked)

@@ -1,11 +1,11 @@
 -- What the turns of a vault's passes find, add and answer.
-use Rattle.std.specs.Prelude.{◌≤◌, ◌≡◌, ◌⊎◌, ℕ, ◌<◌, Bool, true, false, IsTrue, List, [], ◌∷◌, ◌++◌, length, Option, Result, Ok, Err}
+use Rattle.std.specs.Prelude.{◌≤◌, ◌≡◌, ◌⊎◌, ℕ, ◌<◌, Bool, true, false, IfOk, IsTrue, List, [], ◌∷◌, ◌++◌, length, Option, Result, Ok, Err}
 use Rattle.capture.specs.Captures.{captures, HasPayload}
 use Rattle.capture.specs.declared.captured.Brought.{Brought}
 use Rattle.capture.specs.declared.captured.Taken.{Taken}
 use Rattle.warc_text.specs.Sound.{IsSound}
 use Rattle.archive_shelf.specs.Answers.{Brings, HasVolumeAlone, IsByRule, IsDamaged, NamesKeeper, is_bring_fault}
-use Rattle.archive_shelf.specs.Comparing.{CanRefer}
+use Rattle.archive_shelf.specs.Comparing.{CanRefer, RefersAsShown, RefersByDigest}
 use Rattle.archive_shelf.specs.Digests.{GoesByDigest, PieceGoesByDigest}
 use Rattle.archive_shelf.specs.Pieces.{GivesPiece}
 use Rattle.archive_shelf.specs.Storing.{Gains, as_stored}
@@ -70,6 +70,7 @@ pub record HasCommitted (tells : Bool) (taken : Taken) (found added : List Noted
   pub not_full : length (captures (told_book found)) < (told_in tells found).limits.captures
   pub number : receipt.number ≡ length (captures (told_book found))
   pub refers : CanRefer taken.cut (told_book found) receipt.same_as
+  pub by_digest : RefersByDigest (told_book found) taken receipt.same_as
   pub gained : Gains (told_book found) (as_stored taken receipt.same_as) (told_book (found ++ added))
   pub by_rule : IsTrue tells → IsByRule (told_limits found).volume_bytes (told_book found) taken receipt (told_book (found ++ added))
 
@@ -99,9 +100,10 @@ abbrev pub AddsFaultAlone : Bool → List Noted → Type 0
 AddsFaultAlone true added = TellsFault added
 AddsFaultAlone false added = added ≡ []
 
--- The committing turn of a store. Where the disk tells what it holds, the book that is left is sound.
-pub record Commits (tells : Bool) (taken : Taken) (found added : List Noted) (result : Result Receipt StoreFault) : Type 0 where
+-- The committing turn of a store, where these entries are shown. Where the disk tells what it holds, the book that is left is sound.
+pub record Commits (tells : Bool) (entries : List Facts) (taken : Taken) (found added : List Noted) (result : Result Receipt StoreFault) : Type 0 where
   pub answers : CommitAnswers tells taken found added result
+  pub shown : IfOk result (λ receipt. RefersAsShown entries taken receipt.same_as)
   pub sound : IsTrue tells → IsSound (told_book (found ++ added))
 
 -- A turn that looks for a payload.
@@ -147,18 +149,18 @@ pub record IsRefusedEarly (tells : Bool) (taken : Taken) (was is : Known Noted) 
   pub has : HasPayload taken.cut taken.method taken.head taken.wire payload
   pub turn : Turn by_of was is.seen (λ found added. Compares tells payload found added (Err fault))
 
--- Its first turn found and added nothing that is told, and its second one committed it.
-pub record IsCommitted (tells : Bool) (taken : Taken) (was is : Known Noted) (result : Result Receipt StoreFault) : Type 0 where
+-- Its first turn found and added nothing that is told, and its second one committed it, where these entries are shown.
+pub record IsCommitted (tells : Bool) (entries : List Facts) (taken : Taken) (was is : Known Noted) (result : Result Receipt StoreFault) : Type 0 where
   pub middle : List Noted
   pub looks : Turn by_of was middle (λ found added. added ≡ [])
-  pub turn : Turn by_of (record was { seen = middle }) is.seen (λ found added. Commits tells taken found added result)
+  pub turn : Turn by_of (record was { seen = middle }) is.seen (λ found added. Commits tells entries taken found added result)
 
 -- what a store leaves of a pass: there was no memory before its first turn; or that refused it; or the second one answered
-abbrev pub StoresBy : Bool → Taken → Known Noted → Known Noted → Result Receipt StoreFault → Type 0
-StoresBy tells taken was is result =
+abbrev pub StoresBy : Bool → List Facts → Taken → Known Noted → Known Noted → Result Receipt StoreFault → Type 0
+StoresBy tells entries taken was is result =
     ((result ≡ Err stores.Memory) × (is ≡ was))
     ⊎ (((fault : StoreFault) × (result ≡ Err fault) × IsRefusedEarly tells taken was is fault)
-    ⊎ IsCommitted tells taken was is result)
+    ⊎ IsCommitted tells entries taken was is result)
 
 -- a store that ends so may have changed the book
 abbrev pub changes : Result Receipt StoreFault → Bool

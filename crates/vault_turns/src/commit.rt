@@ -9,8 +9,10 @@ ghost use Rattle.archive_core.specs.Told.{told_of};
 ghost use Rattle.history_lock.specs.Seen.{Adds};
 ghost use Rattle.vault_turns.specs.Guarded.{KeepsShown};
 ghost use Rattle.vault_turns.specs.History.{by_of, is_told, told_in};
+ghost use Rattle.archive_index.specs.Shown.{numbered};
 ghost use Rattle.vault_turns.specs.Turns.{Commits};
 
+use crate::item::Item;
 use crate::keeping::Keeping;
 use crate::noting::note_store;
 use crate::published::Published;
@@ -19,6 +21,7 @@ use archive_core::Archive;
 use archive_shelf::{Looked, Receipt, StoreFault};
 use capture::{Digest, Taken};
 use disk_model::Disk;
+use index_snapshot::Note;
 use std::alloc::Global;
 use std::sync::Wait;
 
@@ -31,19 +34,22 @@ pub struct Commit<'a, 't, R> {
     /// The digest of its payload.
     pub digest: Digest,
     pub looked: Looked,
+    /// What the pass has seen of the list that is published.
+    pub seen: &'a Note<Item>,
 }
 
 impl<'a, 't, R: Wait, D: Disk> Act<D> for Commit<'a, 't, R> {
     ghost use Rattle.warc_text.specs.Fits.{Fits};
     ghost use Rattle.archive_core.specs.Looking.{IsDigestOf, IsRightOf};
-    ghost use Rattle.vault_turns.specs.History.{is_told, told_in};
+    ghost use Rattle.vault_turns.specs.History.{Names, is_told, told_in};
+    ghost use Rattle.vault_turns.specs.Items.{shown_in};
     ghost use Rattle.vault_turns.specs.Turns.{Commits};
 
     type Answer = Result<Receipt, StoreFault>;
 
-    ghost ready = { λ work found. Fits work.taken.now × IsDigestOf work.taken.now work.digest × IsRightOf (told_in (is_told found) found) work.taken.now work.looked };
+    ghost ready = { λ work found. Fits work.taken.now × IsDigestOf work.taken.now work.digest × IsRightOf (told_in (is_told found) found) work.taken.now work.looked × Names found work.seen.now.of };
 
-    ghost does = { λ work tells entries found added answer. Commits tells work.taken.now found added answer };
+    ghost does = { λ work tells entries found added answer. Commits tells (shown_in work.seen.now.items) work.taken.now found added answer };
 
     fn act(self, by: u32, value: &mut Published<D>) -> Result<Receipt, StoreFault> {
         let Commit {
@@ -52,10 +58,16 @@ impl<'a, 't, R: Wait, D: Disk> Act<D> for Commit<'a, 't, R> {
             taken,
             digest,
             looked,
+            seen,
         } = self;
-        let answer = value.store(by, alloc, taken, &digest, looked);
-        value.show(rt);
-        answer
+        let shown = value.has_shown(seen);
+        if shown {
+            let answer = value.store(by, alloc, taken, &digest, looked);
+            value.show(rt);
+            return answer;
+        }
+        value.stays_sound();
+        Err(StoreFault::Memory)
     }
 }
 
@@ -94,7 +106,7 @@ impl<D: Disk> Keeping<D> {
         requires fits { Fits taken.now }
         requires digest { IsDigestOf taken.now digest.now }
         requires right { IsRightOf (told_in (is_told self.old.history) self.old.history) taken.now looked }
-        ensures adds { Adds by_of by self.old.history self.new.history (λ added. Commits (is_told self.old.history) taken.now self.old.history added result) }
+        ensures adds { Adds by_of by self.old.history self.new.history (λ added. Commits (is_told self.old.history) (numbered self.old.holdings.index) taken.now self.old.history added result) }
         ensures shows { KeepsShown self.old.holdings self.new.holdings }
     {
         self.archive.shows_its_book();

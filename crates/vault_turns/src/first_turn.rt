@@ -1,11 +1,13 @@
 //! The first turn of a store.
 use crate::commit::Commit;
+use crate::item::Item;
 use crate::published::Published;
 use crate::turning::Act;
 use archive_core::compared_payloads_serve_later;
 use archive_shelf::{Looked, Receipt, StoreFault};
 use capture::{Digest, Taken, growth_keeps_captures};
 use disk_model::Disk;
+use index_snapshot::Note;
 use message_body::Payload;
 use std::alloc::Global;
 use std::sync::Wait;
@@ -29,16 +31,20 @@ pub struct FirstTurn<'a, 't, R> {
     pub payload: Payload<'t>,
     /// The digest of the payload.
     pub digest: Digest,
+    /// What the pass has seen of the list that is published.
+    pub seen: &'a Note<Item>,
 }
 
 impl<'a, 't, R: Wait, D: Disk> Act<D> for FirstTurn<'a, 't, R> {
     ghost use Rattle.vault_turns.specs.FirstTurns.{Begins, IsReady};
+    ghost use Rattle.vault_turns.specs.History.{Names};
+    ghost use Rattle.vault_turns.specs.Items.{shown_in};
 
     type Answer = FirstAnswer;
 
-    ghost ready = { λ work found. IsReady work.taken.now work.payload work.digest };
+    ghost ready = { λ work found. IsReady work.taken.now work.payload work.digest × Names found work.seen.now.of };
 
-    ghost does = { λ work tells entries found added answer. Begins tells work.taken.now work.payload found added answer };
+    ghost does = { λ work tells entries found added answer. Begins tells (shown_in work.seen.now.items) work.taken.now work.payload found added answer };
 
     fn act(self, by: u32, value: &mut Published<D>) -> FirstAnswer {
         compared_payloads_serve_later();
@@ -49,6 +55,7 @@ impl<'a, 't, R: Wait, D: Disk> Act<D> for FirstTurn<'a, 't, R> {
             taken,
             payload,
             digest,
+            seen,
         } = self;
         let compared = value.compare(by, alloc, payload.as_slice(), &digest);
         // The group that is made of the capture takes as much again.
@@ -63,6 +70,7 @@ impl<'a, 't, R: Wait, D: Disk> Act<D> for FirstTurn<'a, 't, R> {
                         taken,
                         digest,
                         looked,
+                        seen,
                     };
                     FirstAnswer::Whole(commit.act(by, value))
                 }

@@ -6,13 +6,14 @@ ghost use Rattle.warc_journal.specs.Journals.{disk_of};
 ghost use Rattle.warc_text.specs.Fits.{Fits};
 ghost use Rattle.warc_text.specs.Sound.{IsSound};
 ghost use Rattle.archive_core.specs.Looking.{IsDigestOf, IsRightOf};
+ghost use Rattle.archive_index.specs.Shown.{numbered};
 ghost use Rattle.history_lock.specs.Seen.{Adds};
 ghost use Rattle.index_snapshot.specs.Entries.{entries_in};
 ghost use Rattle.index_snapshot.specs.Publishing.{edge_of, full_of};
 ghost use Rattle.vault_turns.specs.Calm.{HasRightCheckpoints, IsCalm, StaysCalm, StaysRight, StaysStood, StillStands};
 ghost use Rattle.vault_turns.specs.Guarded.{AreShown, Stands};
-ghost use Rattle.vault_turns.specs.History.{IsOpening, by_of, given_faults, is_told, sure_in, told_book, told_in};
-ghost use Rattle.vault_turns.specs.Items.{AreItems, brings_of, last_book, tells_in};
+ghost use Rattle.vault_turns.specs.History.{IsOpening, Names, by_of, given_faults, is_told, sure_in, told_book, told_in};
+ghost use Rattle.vault_turns.specs.Items.{AreItems, brings_of, last_book, shown_in, tells_in};
 ghost use Rattle.vault_turns.specs.Listing.{IsListed};
 ghost use Rattle.vault_turns.specs.Own.{AreCounted};
 ghost use Rattle.vault_turns.specs.Turns.{BringsIt, Commits, Compares, GivesIt, changes};
@@ -27,7 +28,7 @@ use archive_shelf::{BringFault, Looked, Receipt, StoreFault};
 use capture::{Brought, Bytes, Digest, Memory, Taken, growth_keeps_captures};
 use disk_model::Disk;
 use history_lock::Told;
-use index_snapshot::{Publisher, Viewer, published};
+use index_snapshot::{Note, Publisher, Viewer, published};
 use shown::Shown;
 use std::alloc::Global;
 use std::marker::Model;
@@ -180,6 +181,15 @@ impl<D: Disk> Published<D> {
         }
     }
 
+    /// Whether this is a beginning of the list that is published: the archive shows then all that it shows.
+    pub(crate) fn has_shown(&self, seen: &Note<Item>) -> bool
+        requires { Names self.now.kept.history seen.now.of }
+        ensures { IsTrue result → AreShown (shown_in seen.now.items) self.now.kept.holdings }
+    {
+        let all = self.publisher.note();
+        seen.begins(&all)
+    }
+
     /// Stores a capture for the pass of this number. The list lacks then what was stored.
     pub(crate) fn commit(
         &mut self,
@@ -193,7 +203,7 @@ impl<D: Disk> Published<D> {
         requires fits { Fits taken.now }
         requires digest { IsDigestOf taken.now digest.now }
         requires right { IsRightOf (told_in (is_told self.old.kept.history) self.old.kept.history) taken.now looked }
-        ensures { Adds by_of by self.old.kept.history self.new.kept.history (λ added. Commits (is_told self.old.kept.history) taken.now self.old.kept.history added result) }
+        ensures { Adds by_of by self.old.kept.history self.new.kept.history (λ added. Commits (is_told self.old.kept.history) (numbered self.old.kept.holdings.index) taken.now self.old.kept.history added result) }
     {
         growth_keeps_captures();
         self.keeping.stands();
@@ -217,7 +227,7 @@ impl<D: Disk> Published<D> {
         requires fits { Fits taken.now }
         requires digest { IsDigestOf taken.now digest.now }
         requires right { IsRightOf (told_in (is_told self.old.kept.history) self.old.kept.history) taken.now looked }
-        ensures { Adds by_of by self.old.kept.history self.new.kept.history (λ added. Commits (is_told self.old.kept.history) taken.now self.old.kept.history added result) }
+        ensures { Adds by_of by self.old.kept.history self.new.kept.history (λ added. Commits (is_told self.old.kept.history) (numbered self.old.kept.holdings.index) taken.now self.old.kept.history added result) }
     {
         if self.catch_up(alloc).is_err() {
             self.keeping.stays_sound();

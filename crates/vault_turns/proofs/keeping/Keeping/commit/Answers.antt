@@ -62,7 +62,7 @@ invariant_of-self-2 g c =
 pub returns-clause-adds : goal.returns-clause-adds
 returns-clause-adds g c =
     subst (λ (kept : Guarded _). Adds by_of c.args.by kept.history (values c.note_store.new.history.items)
-    (λ added. Commits (is_told kept.history) c.args.taken.now kept.history added c.stored-answer.result.0)) c.self.view_is
+    (λ added. Commits (is_told kept.history) (numbered kept.holdings.index) c.args.taken.now kept.history added c.stored-answer.result.0)) c.self.view_is
     (all_committed g.D.Disk c.args.by c.args.taken.now (values c.self.inside.history.items) (values c.note_store.new.history.items)
     c.self.inside.archive c.stored-answer.new.archive c.stored-answer.result.0 c.stored-answer.result.1 c.self.invariant.0 c.self.invariant.1
     c.stored-answer.ensures.stores c.stored-answer.ensures.began c.stored-answer.ensures.shows.consistent.sound

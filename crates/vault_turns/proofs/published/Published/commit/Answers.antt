@@ -1,5 +1,6 @@
 use Rattle.std.proofs.Common.{◌≡◌, Bool, true, not, subst, sym, ap}
 use Rattle.archive_shelf.specs.Comparing.{IsRight}
+use Rattle.archive_index.specs.Shown.{numbered}
 use Rattle.history_lock.specs.Seen.{Adds}
 use Rattle.vault_turns.specs.Guarded.{Publication, Publishes}
 use Rattle.vault_turns.specs.History.{by_of, is_told, told_book}
@@ -27,4 +28,4 @@ invariant_of-self g c =
 pub returns : goal.returns
 returns g c =
     subst (λ (p : Publication _). Adds by_of c.args.by p.kept.history c.commit-answer.new.self.history
-    (λ added. Commits (is_told p.kept.history) c.args.taken.now p.kept.history added c.commit-answer.result)) c.self.view_is c.commit-answer.ensures.adds
+    (λ added. Commits (is_told p.kept.history) (numbered p.kept.holdings.index) c.args.taken.now p.kept.history added c.commit-answer.result)) c.self.view_is c.commit-answer.ensures.adds
