@@ -1,34 +1,19 @@
 -- A look of a pass at its vault.
-use Rattle.std.proofs.Common.{◌≡◌, Bool, false, List, [], ◌∷◌, ◌++◌, refl, sym, ap, subst, ◌∙◌, inl, arith, append_assoc}
+use Rattle.std.proofs.Common.{◌≡◌, Bool, false, ◌∷◌, refl, ap, inl, arith}
 use mathlib.Core.List.{IsPrefix}
 use Rattle.capture.specs.GrowthLaws.{GrowsFromItself, GrowthGoesOn, GrowthKeepsCaptures}
-use Rattle.index_entry.specs.Facts.{Facts}
-use Rattle.archive_index.specs.Shown.{numbered}
-use Rattle.archive_shelf.specs.Contents.{Begins}
 use Rattle.archive_shelf.specs.Told.{KnowsBook, LooksOn}
 use Rattle.history_lock.specs.Known.{Known}
 use Rattle.index_snapshot.specs.Edges.{Edge}
-use Rattle.index_snapshot.specs.Entries.{entries_in}
-use Rattle.index_snapshot.proofs.Bringing.{entries_joined}
 use Rattle.vault.specs.Company.{Passing, contents_at, told_at}
 use Rattle.vault_turns.specs.History.{is_told, told_book, told_limits}
-use Rattle.vault_turns.specs.Items.{brings_of, shown_in}
+use Rattle.vault_turns.specs.Items.{shown_in}
 use Rattle.vault_turns.specs.Listing.{HasSeen, IsListed}
 use Rattle.vault_turns.specs.Own.{own_captures, own_faults}
 use Rattle.vault_turns.specs.declared.item.Item.{Item}
 use Rattle.vault_turns.specs.declared.noted.Noted.{Noted}
+use Rattle.vault_turns.proofs.SeenLaws.{shown_begins}
 use Rattle.vault.proofs.ShowingLaws.{knows_book}
-
-shown_on : (items more : List Item) → Begins (shown_in items) (shown_in (items ++ more))
-shown_on [] more = record { rest = shown_in more; joined = refl }
-shown_on (first ∷ others) more = record {
-  rest = entries_in brings_of more;
-  joined = ap (λ (l : List Facts). numbered (brings_of first) ++ l) (entries_joined brings_of others more)
-      ∙ sym (append_assoc (numbered (brings_of first)) (entries_in brings_of others) (entries_in brings_of more));
-}
-
-pub shown_begins : (was is : List Item) → IsPrefix was is → Begins (shown_in was) (shown_in is)
-shown_begins was is begins = subst (λ (l : List Item). Begins (shown_in was) (shown_in l)) begins.1 (shown_on was begins.0)
 
 pub looks_on : (was is : Passing) → is.known ≡ was.known → IsPrefix was.shown.items is.shown.items → LooksOn false (told_at was) (told_at is)
 looks_on was is known more = record {

@@ -1,11 +1,7 @@
 -- What is brought, or given as a piece, goes with what is shown by date.
-use Rattle.std.proofs.Common.{◌≡◌, ℕ, Bool, true, false, List, [], ◌∷◌, ◌++◌, Result, refl, sym, ap, subst, ◌∙◌}
+use Rattle.std.proofs.Common.{◌≡◌, ℕ, Bool, true, false, List, Result, refl, sym, ap, subst, ◌∙◌}
 use mathlib.Core.List.{IsPrefix}
-use mathlib.Core.Bool.{true≢false}
-use Rattle.std.specs.Prelude.{Contains, MatchBool}
 use Rattle.capture.specs.declared.captured.Brought.{Brought}
-use Rattle.index_entry.specs.Facts.{Facts}
-use Rattle.index_entry.proofs.Members.{Among-append_left, among_from_contains, contains_from_among}
 use Rattle.archive_shelf.specs.Answers.{Brings, is_bring_fault}
 use Rattle.archive_shelf.specs.Pieces.{GivesPiece}
 use Rattle.archive_shelf.specs.declared.fault.BringFault.{BringFault}
@@ -13,45 +9,16 @@ use Rattle.history_lock.specs.Known.{Known}
 use Rattle.history_lock.specs.Seen.{Turn}
 use Rattle.index_snapshot.specs.Edges.{Edge}
 use Rattle.index_snapshot.specs.Entries.{entries_in}
-use Rattle.logbook.specs.Pages.{Book as LogBook}
 use Rattle.vault.specs.Company.{contents_at}
-use Rattle.vault_turns.specs.History.{IsBegun, Names, NamesIn, by_of, is_told, showing, told_book}
+use Rattle.vault_turns.specs.History.{IsBegun, by_of, is_told, showing, told_book}
 use Rattle.vault_turns.specs.Items.{brings_of, shown_in}
 use Rattle.vault_turns.specs.Turns.{AddsFaultAlone, BringsIt, GivesIt, held_back}
 use Rattle.vault_turns.specs.declared.item.Item.{Item}
-use Rattle.vault_turns.specs.declared.noted.Kind.{Kind}
-use Rattle.vault_turns.specs.declared.noted.Kind.TheVariants.{Opened, Began, Stored, Failed}
 use Rattle.vault_turns.specs.declared.noted.Noted.{Noted}
 use Rattle.vault_turns.proofs.AnswerLaws.{brings_as, brings_quiet, gives_as, gives_quiet, held_digests, held_fault, held_names, held_piece_digests}
-use Rattle.vault.proofs.AtLaws.{shown_begins}
 use Rattle.vault_turns.proofs.HistoryLaws.{begun_append}
-use Rattle.vault_turns.proofs.ItemLaws.{shows_same}
 use Rattle.vault_turns.proofs.PublishLaws.{fault_added}
-
--- ---- one list
-
-names_by : (kind : Kind) (a b : LogBook) → NamesIn kind a → NamesIn kind b → b ≡ a
-names_by (Opened held limits told list faults sure) a b one other = sym other ∙ one
-names_by (Began at) a b one other = absurd one
-names_by (Stored taken same) a b one other = absurd one
-names_by Failed a b one other = absurd one
-
-pub names_one : (history : List Noted) (a b : LogBook) → Names history a → Names history b → b ≡ a
-names_one [] a b one other = absurd one
-names_one (noted ∷ others) a b one other = names_by noted.kind a b one other
-
--- what a comparison of two beginnings told
-pub prefix_if : (b : Bool) (xs ys : List Item) → MatchBool b (IsPrefix xs ys) (IsPrefix ys xs) → b ≡ true → IsPrefix xs ys
-prefix_if true xs ys is t = is
-prefix_if false xs ys is t = absurd (true≢false (sym t))
-
--- ---- what is shown of a beginning of the list
-
-shown_there : (note shown : List Item) → IsPrefix shown note → (e : Facts) → Contains (shown_in shown) e → Contains (entries_in brings_of note) e
-shown_there note shown begins e has =
-    let more = shown_begins shown note begins in
-    shows_same note e (subst (λ (l : List Facts). Contains l e) (sym more.joined)
-    (contains_from_among (shown_in shown ++ more.rest) e (Among-append_left (shown_in shown) more.rest e (among_from_contains (shown_in shown) e has))))
+use Rattle.vault_turns.proofs.SeenLaws.{shown_there}
 
 -- ---- a turn whose answer goes with what is shown, or is held back
 

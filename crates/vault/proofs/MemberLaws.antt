@@ -14,6 +14,7 @@ use Rattle.archive_shelf.specs.declared.fault.BringFault.{BringFault}
 use Rattle.archive_shelf.specs.declared.fault.StoreFault.{StoreFault}
 use Rattle.archive_shelf.specs.declared.receipt.Receipt.{Receipt}
 use Rattle.archive_shelf.proofs.EarlierShowing.{shows_earlier}
+use Rattle.index_entry.specs.Facts.{Facts}
 use Rattle.history_lock.specs.Known.{IsSamePass, Known, LockId}
 use Rattle.history_lock.specs.Seen.{Turn}
 use Rattle.vault.specs.Company.{Passing, told_at}
@@ -169,12 +170,13 @@ module _ (vault : VaultName) (was is : Known Noted) (same : IsSamePass was is) (
   was_sound : IsTrue (is_told was.seen) → IsSound (told_book was.seen)
   was_sound t = member.sound (subst (λ (b : Bool). IsTrue b) member.told t)
 
-  pub member_stored : (taken : Taken) (result : Result Receipt StoreFault) → StoresBy (is_told was.seen) taken was is result → IsMember vault is
-  member_stored taken result stores =
+  pub member_stored : (entries : List Facts) (taken : Taken) (result : Result Receipt StoreFault) → StoresBy (is_told was.seen) entries taken was is result
+      → IsMember vault is
+  member_stored entries taken result stores =
       stays_member (number_if result) (one_if (is_store_fault result))
-      (stores_keep vault.book (is_told was.seen) taken was is result same stores member.orderly)
-      (store_left taken was is (member_begun vault was member) member.alone result stores)
-      (store_sound taken was is (member_begun vault was member) member.alone result stores was_sound)
+      (stores_keep vault.book (is_told was.seen) entries taken was is result same stores member.orderly)
+      (store_left taken was is (member_begun vault was member) member.alone entries result stores)
+      (store_sound taken was is (member_begun vault was member) member.alone entries result stores was_sound)
 
   pub member_read : (does : List Noted → List Noted → Type 0) (failed : Bool) → Turn by_of was is.seen does
       → ((found added : List Noted) → does found added → AddsFaultAlone failed added)
@@ -191,7 +193,7 @@ pub at_shows : (vault : VaultName) (is : Passing) → IsMember vault is.known �
 at_shows vault is member = shows_book is (λ t. member.sound (subst (λ (b : Bool). IsTrue b) member.told t))
 
 module _ (vault : VaultName) (was is : Passing) (same : IsSamePass was.known is.known) (shown : is.shown ≡ was.shown) (member : IsMember vault was.known) where
-  pub at_stores : (taken : Taken) (result : Result Receipt StoreFault) → StoresBy (is_told was.known.seen) taken was.known is.known result
+  pub at_stores : (taken : Taken) (result : Result Receipt StoreFault) → StoresBy (is_told was.known.seen) (shown_in is.shown.items) taken was.known is.known result
       → StoresOn false taken (told_at was) (told_at is) result
   at_stores taken result stores = stores_on taken was is same shown (member_begun vault was.known member) member.alone result stores
 

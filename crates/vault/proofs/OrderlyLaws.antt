@@ -192,11 +192,11 @@ commit_placed numbers tells taken found added (Err stores.Memory) begun done =
     subst (λ (l : List Noted). ArePlaced numbers (told_book found) l) (sym done) tt
 
 pub stores_keep : StoresKeepOrder
-stores_keep book tells taken was is result same (inl none) order = subst (λ (p : Known Noted). IsOrderly book p) (sym none.1) order
-stores_keep book tells taken was is result same (inr (inl early)) order =
+stores_keep book tells entries taken was is result same (inl none) order = subst (λ (p : Known Noted). IsOrderly book p) (sym none.1) order
+stores_keep book tells entries taken was is result same (inr (inl early)) order =
     same_again book was order is same (turn_keeps book was order is.seen _ early.2.turn
     (λ found added begun done. fault_placed was.numbers (told_book found) (is_look_fault {T = Looked} (Err early.0)) added done.adds))
-stores_keep book tells taken was is result same (inr (inr done)) order =
+stores_keep book tells entries taken was is result same (inr (inr done)) order =
     let looked = turn_keeps book was order done.middle _ done.looks
     (λ found added begun none. subst (λ (l : List Noted). ArePlaced was.numbers (told_book found) l) (sym none) tt) in
     same_again book was order is same (turn_keeps book (record was { seen = done.middle }) (again book was order done.middle looked) is.seen _ done.turn

@@ -12,6 +12,7 @@ use Rattle.archive_shelf.specs.declared.fault.StoreFault.TheVariants as stores
 use Rattle.archive_shelf.specs.declared.looked.Looked.{Looked}
 use Rattle.archive_shelf.specs.declared.receipt.Receipt.{Receipt}
 use Rattle.archive_core.specs.Looking.{FoundServesLater, IsRightOf}
+use Rattle.index_entry.specs.Facts.{Facts}
 use Rattle.history_lock.specs.Known.{IsSamePass, Known}
 use Rattle.history_lock.specs.Seen.{Shows, Turn}
 use Rattle.vault_turns.specs.FirstTurns.{Begins, IsRefused}
@@ -21,12 +22,12 @@ use Rattle.vault_turns.specs.declared.first_turn.FirstAnswer.TheVariants.{Whole}
 use Rattle.vault_turns.specs.declared.noted.Noted.{Noted}
 use Rattle.vault_turns.proofs.HistoryLaws.{begun_append, told_grows}
 
-module _ (tells : Bool) (taken : Taken) (was : Known Noted) where
-  pub no_memory : StoresBy tells taken was was (Err stores.Memory)
+module _ (tells : Bool) (entries : List Facts) (taken : Taken) (was : Known Noted) where
+  pub no_memory : StoresBy tells entries taken was was (Err stores.Memory)
   no_memory = inl (refl, refl)
 
   pub refused_early : (is : Known Noted) (fault : StoreFault) (payload : List ℕ) → HasPayload taken.cut taken.method taken.head taken.wire payload
-      → Turn by_of was is.seen (λ found added. Compares tells payload found added (Err fault)) → StoresBy tells taken was is (Err fault)
+      → Turn by_of was is.seen (λ found added. Compares tells payload found added (Err fault)) → StoresBy tells entries taken was is (Err fault)
   refused_early is fault payload has turn = inr (inl (fault, refl, record { payload = payload; has = has; turn = turn }))
 
 -- ---- what was looked for serves later
@@ -69,23 +70,23 @@ module _ (tells : Bool) (was : Known Noted) (middle : List Noted) (payload : Lis
       (subst (λ (l : List Noted). Grows (told_book middle) (told_book l)) (sym shows.is_seen_and_more) (told_grows itself goes_on middle shows.more (middle_begun begun)))
       has right_there
 
-module _ (tells : Bool) (taken : Taken) (was middle is : Known Noted) (same : IsSamePass was middle) where
+module _ (tells : Bool) (entries : List Facts) (taken : Taken) (was middle is : Known Noted) (same : IsSamePass was middle) where
   next_pass : middle ≡ record was { seen = middle.seen }
   next_pass = λ i. record { lock = same.0 i; number = same.1 i; numbers = same.2 i; passes = same.3 i; seen = middle.seen }
 
   pub committed_later : (result : Result Receipt StoreFault) → Turn by_of was middle.seen (λ found added. added ≡ [])
-      → Turn by_of middle is.seen (λ found added. Commits tells taken found added result) → StoresBy tells taken was is result
+      → Turn by_of middle is.seen (λ found added. Commits tells entries taken found added result) → StoresBy tells entries taken was is result
   committed_later result looks turn = inr (inr (record {
     middle = middle.seen;
     looks = looks;
-    turn = subst (λ (p : Known Noted). Turn by_of p is.seen (λ found added. Commits tells taken found added result)) next_pass turn;
+    turn = subst (λ (p : Known Noted). Turn by_of p is.seen (λ found added. Commits tells entries taken found added result)) next_pass turn;
   }))
 
 -- ---- a store that its first turn answered
 
-module _ (tells : Bool) (taken : Taken) (payload : List ℕ) (was is : Known Noted) (result : Result Receipt StoreFault)
+module _ (tells : Bool) (entries : List Facts) (taken : Taken) (payload : List ℕ) (was is : Known Noted) (result : Result Receipt StoreFault)
     (has : HasPayload taken.cut taken.method taken.head taken.wire payload)
-    (turn : Turn by_of was is.seen (λ found added. Begins tells taken payload found added (Whole result))) where
+    (turn : Turn by_of was is.seen (λ found added. Begins tells entries taken payload found added (Whole result))) where
   -- the turn, of which this holds
   turn_by : (does : List Noted → List Noted → Type 0) → does turn.found turn.adds.added → Turn by_of was is.seen does
   turn_by does done = record {
@@ -99,14 +100,14 @@ module _ (tells : Bool) (taken : Taken) (payload : List ℕ) (was is : Known Not
     };
   }
 
-  refused_so : IsRefused tells payload turn.found turn.adds.added result → StoresBy tells taken was is result
+  refused_so : IsRefused tells payload turn.found turn.adds.added result → StoresBy tells entries taken was is result
   refused_so refused =
-      subst (λ (r : Result Receipt StoreFault). StoresBy tells taken was is r) (sym refused.1)
-      (refused_early tells taken was is refused.0 payload has
+      subst (λ (r : Result Receipt StoreFault). StoresBy tells entries taken was is r) (sym refused.1)
+      (refused_early tells entries taken was is refused.0 payload has
       (turn_by (λ found added. Compares tells payload found added (Err refused.0)) refused.2))
 
   -- it found all, added nothing, and went on as a second turn that found the same
-  committed_so : Commits tells taken turn.found turn.adds.added result → StoresBy tells taken was is result
+  committed_so : Commits tells entries taken turn.found turn.adds.added result → StoresBy tells entries taken was is result
   committed_so commits = inr (inr (record {
     middle = turn.found;
     looks = record {
@@ -126,10 +127,10 @@ module _ (tells : Bool) (taken : Taken) (payload : List ℕ) (was is : Known Not
     };
   }))
 
-  by_cases : IsRefused tells payload turn.found turn.adds.added result ⊎ Commits tells taken turn.found turn.adds.added result
-      → StoresBy tells taken was is result
+  by_cases : IsRefused tells payload turn.found turn.adds.added result ⊎ Commits tells entries taken turn.found turn.adds.added result
+      → StoresBy tells entries taken was is result
   by_cases (inl refused) = refused_so refused
   by_cases (inr commits) = committed_so commits
 
-  pub answered_at_once : StoresBy tells taken was is result
+  pub answered_at_once : StoresBy tells entries taken was is result
   answered_at_once = by_cases turn.adds.done

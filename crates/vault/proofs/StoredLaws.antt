@@ -1,13 +1,14 @@
 -- What a store of a pass leaves, as of one of many shelves.
 use Rattle.std.proofs.Common.{◌≡◌, ◌⊎◌, ℕ, ◌<◌, ◌≤◌, Bool, false, IsTrue, List, [], ◌∷◌, ◌++◌, length, Result, Ok, Err, refl, sym, ap, subst, ◌∙◌, inl, inr, arith}
 use mathlib.Core.Bool.{true≢false}
-use Rattle.std.specs.Prelude.{OnOk}
+use Rattle.std.specs.Prelude.{IfOk, OnOk}
 use Rattle.capture.specs.Captures.{captures}
 use Rattle.capture.specs.declared.book.Book.{Book}
 use Rattle.capture.specs.declared.captured.Taken.{Taken}
 use Rattle.capture.specs.declared.limits.Limits.{Limits}
 use Rattle.warc_text.specs.Sound.{IsSound}
 use Rattle.archive_shelf.specs.Answers.{HasVolumeAlone, IsByRule, StoreLeaves, is_store_fault}
+use Rattle.archive_shelf.specs.Comparing.{RefersAsShown}
 use Rattle.archive_shelf.specs.Storing.{Gains, as_stored}
 use Rattle.archive_shelf.specs.Told.{HoldsJust, StoreMayLeave, StoresOn}
 use Rattle.archive_shelf.specs.declared.fault.StoreFault.{StoreFault}
@@ -16,6 +17,7 @@ use Rattle.archive_shelf.specs.declared.looked.Looked.{Looked}
 use Rattle.archive_shelf.specs.declared.receipt.Receipt.{Receipt}
 use Rattle.archive_core.specs.Looking.{Looks}
 use Rattle.archive_payloads.specs.Choosing.{is_look_fault}
+use Rattle.index_entry.specs.Facts.{Facts}
 use Rattle.history_lock.specs.Known.{IsSamePass, Known}
 use Rattle.history_lock.specs.Seen.{Turn}
 use Rattle.vault.specs.Company.{Passing, contents_at, told_at}
@@ -82,8 +84,8 @@ module _ (taken : Taken) (was is : Passing) (same : IsSamePass was.known is.know
     book_there = ap told_book joined
 
     committed : (result : Result Receipt StoreFault) → Left result → CommitAnswers (is_told was.known.seen) taken found added result
-        → StoreLeaves false taken (contents_at was) (contents_at is) result
-    committed (Ok receipt) leaves done =
+        → IfOk result (λ receipt. RefersAsShown (shown_in is.shown.items) taken receipt.same_as) → StoreLeaves false taken (contents_at was) (contents_at is) result
+    committed (Ok receipt) leaves done as_shown =
         let mine : own_captures is.known.numbers is.known.seen ≡ own_captures was.known.numbers was.known.seen ++ receipt.number ∷ []
         = ap (λ (ns : List ℕ). own_captures ns is.known.seen) same.2 ∙ leaves.mine in
         record {
@@ -92,6 +94,8 @@ module _ (taken : Taken) (was is : Passing) (same : IsSamePass was.known is.know
           not_full = subst (λ (l : Limits). length (captures (told_book found)) < l.captures) limits_there done.not_full;
           number = done.number;
           refers = done.refers;
+          by_digest = done.by_digest;
+          as_shown = as_shown;
           gained = subst (λ (b : Book). Gains (told_book found) (as_stored taken receipt.same_as) b) (sym book_there) done.gained;
           by_rule = λ t. subst (λ (b : Book). IsByRule (told_limits was.known.seen).volume_bytes (told_book found) taken receipt b) (sym book_there)
               (subst (λ (l : Limits). IsByRule l.volume_bytes (told_book found) taken receipt (told_book (found ++ added))) limits_there (done.by_rule t));
@@ -104,7 +108,7 @@ module _ (taken : Taken) (was is : Passing) (same : IsSamePass was.known is.know
             limits = leaves.limits i;
           };
         }
-    committed (Err (stores.Full count limit)) leaves done =
+    committed (Err (stores.Full count limit)) leaves done as_shown =
         let book : told_book is.known.seen ≡ told_book found = book_there ∙ nothing_added found added done.0 in (
           stays was is same shown 0 leaves,
           subst (λ (l : Limits). l.captures ≤ length (captures (told_book is.known.seen))) limits_there
@@ -112,7 +116,7 @@ module _ (taken : Taken) (was is : Passing) (same : IsSamePass was.known is.know
           done.2 ∙ ap (λ (b : Book). length (captures b)) (sym book),
           done.3 ∙ ap (λ (l : Limits). l.captures) limits_there,
         )
-    committed (Err stores.DiskFault) leaves done =
+    committed (Err stores.DiskFault) leaves done as_shown =
         let all = stays was is same shown 1 leaves in (
           told_book found,
           base.grows,
@@ -123,7 +127,7 @@ module _ (taken : Taken) (was is : Passing) (same : IsSamePass was.known is.know
           all.shown,
           all.others,
         )
-    committed (Err (stores.Damaged at kept digest)) leaves done =
+    committed (Err (stores.Damaged at kept digest)) leaves done as_shown =
         let book : told_book is.known.seen ≡ told_book found = book_there ∙ nothing_added found added done.0 in (
           stays was is same shown 0 leaves,
           subst (λ (l : Limits). length (captures (told_book is.known.seen)) < l.captures) limits_there
@@ -131,7 +135,7 @@ module _ (taken : Taken) (was is : Passing) (same : IsSamePass was.known is.know
           subst (λ (b : Book). at < length (captures b)) (sym book) done.2,
           done.3,
         )
-    committed (Err stores.Memory) leaves done = stays was is same shown 0 leaves
+    committed (Err stores.Memory) leaves done as_shown = stays was is same shown 0 leaves
 
 -- ---- a whole store
 
@@ -149,16 +153,16 @@ module _ (taken : Taken) (was is : Known Noted) (begun : IsBegun was.seen) (alon
       leaves_both was.numbers was.seen middle turn.found [] 0 (middle_leaves middle first)
       (found_leaves (record was { seen = middle }) is.seen does (middle_begun middle first) turn)
 
-  pub store_left : (result : Result Receipt StoreFault) → StoresBy (is_told was.seen) taken was is result
+  pub store_left : (entries : List Facts) (result : Result Receipt StoreFault) → StoresBy (is_told was.seen) entries taken was is result
       → Leaves was.numbers was.seen is.seen (number_if result) (one_if (is_store_fault result))
-  store_left result (inl none) =
+  store_left entries result (inl none) =
       subst (λ (r : Result Receipt StoreFault). Leaves was.numbers was.seen is.seen (number_if r) (one_if (is_store_fault r))) (sym none.0)
       (subst (λ (k : Known Noted). Leaves was.numbers was.seen k.seen [] 0) (sym none.1) (leaves_itself was.numbers was.seen begun))
-  store_left result (inr (inl early)) =
+  store_left entries result (inr (inl early)) =
       subst (λ (r : Result Receipt StoreFault). Leaves was.numbers was.seen is.seen (number_if r) (one_if (is_store_fault r))) (sym early.1)
       (subst (λ (b : Bool). Leaves was.numbers was.seen is.seen [] (one_if b)) (same_fault early.0)
       (read_turn was is.seen _ begun alone early.2.turn (is_look_fault {T = Looked} (Err early.0)) (λ found added done. done.adds)))
-  store_left result (inr (inr done)) =
+  store_left entries result (inr (inr done)) =
       let turn = done.turn in
       subst (λ (l : List Noted). Leaves was.numbers was.seen l (number_if result) (one_if (is_store_fault result))) (sym turn.adds.is_before_and_added)
       (leaves_both was.numbers was.seen turn.found (turn.found ++ turn.adds.added) (number_if result) (one_if (is_store_fault result))
@@ -167,12 +171,12 @@ module _ (taken : Taken) (was is : Known Noted) (begun : IsBegun was.seen) (alon
       (found_begun (record was { seen = done.middle }) is.seen _ (middle_begun done.middle done.looks) turn) turn.adds.of_pass turn.adds.done.answers))
 
   -- where the disk tells what it holds, the book that is seen stays sound
-  pub store_sound : (result : Result Receipt StoreFault) → StoresBy (is_told was.seen) taken was is result → (IsTrue (is_told was.seen) → IsSound (told_book was.seen))
+  pub store_sound : (entries : List Facts) (result : Result Receipt StoreFault) → StoresBy (is_told was.seen) entries taken was is result → (IsTrue (is_told was.seen) → IsSound (told_book was.seen))
       → IsTrue (is_told was.seen) → IsSound (told_book is.seen)
-  store_sound result (inl none) sound t = subst (λ (k : Known Noted). IsSound (told_book k.seen)) (sym none.1) (sound t)
-  store_sound result (inr (inl early)) sound t =
+  store_sound entries result (inl none) sound t = subst (λ (k : Known Noted). IsSound (told_book k.seen)) (sym none.1) (sound t)
+  store_sound entries result (inr (inl early)) sound t =
       subst (λ (l : List Noted). IsSound (told_book l)) (sym early.2.turn.adds.is_before_and_added) (early.2.turn.adds.done.sound t)
-  store_sound result (inr (inr done)) sound t =
+  store_sound entries result (inr (inr done)) sound t =
       subst (λ (l : List Noted). IsSound (told_book l)) (sym done.turn.adds.is_before_and_added) (done.turn.adds.done.sound t)
 
 on_any : {T E : Type 0} (r : Result T E) (P : Type 0) → P → OnOk r P
@@ -184,7 +188,7 @@ holds_just is result = λ alone. absurd (true≢false (sym alone))
 
 module _ (taken : Taken) (was is : Passing) (same : IsSamePass was.known is.known) (shown : is.shown ≡ was.shown) (begun : IsBegun was.known.seen)
     (alone : was.known.numbers ≡ was.known.number ∷ []) where
-  leaves_by : (result : Result Receipt StoreFault) → StoresBy (is_told was.known.seen) taken was.known is.known result
+  leaves_by : (result : Result Receipt StoreFault) → StoresBy (is_told was.known.seen) (shown_in is.shown.items) taken was.known is.known result
       → StoreLeaves false taken (contents_at was) (contents_at is) result
   leaves_by result (inl none) =
       subst (λ (r : Result Receipt StoreFault). StoreLeaves false taken (contents_at was) (contents_at is) r) (sym none.0)
@@ -196,11 +200,12 @@ module _ (taken : Taken) (was is : Passing) (same : IsSamePass was.known is.know
       (refused taken was is same shown begun alone early.2.payload early.0 early.2.turn.found
       (read_book was.known is.known.seen _ begun alone early.2.turn fault (λ found added done. done.adds))
       (found_leaves was.known is.known.seen _ begun early.2.turn).limits
-      (store_left taken was.known is.known begun alone (Err early.0) (inr (inl (early.0, refl, early.2))))
+      (store_left taken was.known is.known begun alone (shown_in is.shown.items) (Err early.0) (inr (inl (early.0, refl, early.2))))
       early.2.turn.adds.done.looks)
   leaves_by result (inr (inr done)) =
       committed taken was is same shown begun alone done.turn.found done.turn.adds.added (found_second taken was.known is.known begun alone done.middle _ done.looks done.turn)
-      done.turn.adds.is_before_and_added result (store_left taken was.known is.known begun alone result (inr (inr done))) done.turn.adds.done.answers
+      done.turn.adds.is_before_and_added result (store_left taken was.known is.known begun alone (shown_in is.shown.items) result (inr (inr done))) done.turn.adds.done.answers
+      done.turn.adds.done.shown
 
   may_leave : (result : Result Receipt StoreFault) → StoreMayLeave false taken (told_at was) (told_at is) result
   may_leave result = record {
@@ -213,11 +218,11 @@ module _ (taken : Taken) (was is : Passing) (same : IsSamePass was.known is.know
     kept = λ files has. has;
   }
 
-  pub stores_on : (result : Result Receipt StoreFault) → StoresBy (is_told was.known.seen) taken was.known is.known result
+  pub stores_on : (result : Result Receipt StoreFault) → StoresBy (is_told was.known.seen) (shown_in is.shown.items) taken was.known is.known result
       → StoresOn false taken (told_at was) (told_at is) result
   stores_on result stores = record {
     leaves = leaves_by result stores;
-    faults = counts was is same shown (number_if result) (is_store_fault result) (store_left taken was.known is.known begun alone result stores);
+    faults = counts was is same shown (number_if result) (is_store_fault result) (store_left taken was.known is.known begun alone (shown_in is.shown.items) result stores);
     reading = λ alone. absurd (true≢false (sym alone));
     crash = may_leave result;
   }

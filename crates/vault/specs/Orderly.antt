@@ -6,6 +6,7 @@ use Rattle.capture.specs.declared.limits.Limits.{Limits}
 use Rattle.archive_shelf.specs.Storing.{empty_book}
 use Rattle.archive_shelf.specs.declared.fault.StoreFault.{StoreFault}
 use Rattle.archive_shelf.specs.declared.receipt.Receipt.{Receipt}
+use Rattle.index_entry.specs.Facts.{Facts}
 use Rattle.history_lock.specs.Known.{IsSamePass, Known, LockId}
 use Rattle.history_lock.specs.Seen.{All, Turn}
 use Rattle.vault_turns.specs.History.{after_kind, by_of, opened_book}
@@ -65,8 +66,8 @@ NewPassesAreOrderly =
 -- after it stored a capture, or didn't,
 abbrev pub StoresKeepOrder : Type 0
 StoresKeepOrder =
-    (book : Book) (tells : Bool) (taken : Taken) (was is : Known Noted) (result : Result Receipt StoreFault) → IsSamePass was is
-    → StoresBy tells taken was is result → IsOrderly book was → IsOrderly book is
+    (book : Book) (tells : Bool) (entries : List Facts) (taken : Taken) (was is : Known Noted) (result : Result Receipt StoreFault) → IsSamePass was is
+    → StoresBy tells entries taken was is result → IsOrderly book was → IsOrderly book is
 
 -- and after each turn that adds a fault at most.
 abbrev pub AddsFaultAtMost : List Noted → Type 0

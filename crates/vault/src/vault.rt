@@ -5,22 +5,21 @@ ghost use Rattle.warc_journal.specs.Journals.{disk_of};
 ghost use Rattle.warc_text.specs.Fits.{Fits};
 ghost use Rattle.archive_shelf.specs.Answers.{Brings};
 ghost use Rattle.archive_shelf.specs.Pieces.{GivesPiece};
-ghost use Rattle.archive_core.specs.Looking.{IsDigestOf, IsRightOf};
 ghost use Rattle.history_lock.specs.Known.{IsSamePass};
 ghost use Rattle.history_lock.specs.Seen.{Shows, Turn};
 ghost use Rattle.vault_turns.specs.Calm.{HasRightCheckpoints, IsCalm, StillStands, crash_left};
-ghost use Rattle.vault_turns.specs.History.{IsBegun, KeepsNames, Names, by_of, is_told, told_in};
+ghost use Rattle.vault_turns.specs.History.{IsBegun, KeepsNames, Names, by_of, is_told};
 ghost use Rattle.vault.specs.Company.{contents_at};
 ghost use Rattle.vault_turns.specs.Items.{brings_of, shown_in};
 ghost use Rattle.index_snapshot.specs.Entries.{entries_in};
 ghost use Rattle.vault_turns.specs.Listing.{IsListed};
 ghost use Rattle.vault.specs.Passes.{IsLeft, IsNew};
-ghost use Rattle.vault_turns.specs.Turns.{AddsNone, BringsIt, Commits, GivesIt, StoresBy};
+ghost use Rattle.vault_turns.specs.Turns.{AddsNone, BringsIt, GivesIt, StoresBy};
 
 use crate::pass::{VaultPass, seat_all};
 use archive_core::{Archive, compared_payloads_serve_later, payload_of_taken};
-use archive_shelf::{BringFault, Looked, Receipt, StoreFault};
-use capture::{Brought, Bytes, Digest, Memory, Taken, growth_keeps_captures};
+use archive_shelf::{BringFault, Receipt, StoreFault};
+use capture::{Brought, Bytes, Memory, Taken, growth_keeps_captures};
 use digest32::payload_digest;
 use disk_model::Disk;
 use history_lock::{HistoryLock, Pass};
@@ -95,19 +94,20 @@ impl<D: Disk> Vault<D> {
     ) -> Result<Receipt, StoreFault>
         requires pass { pass.old.known.lock ≡ self.now }
         requires fits { Fits taken.now }
-        ensures stores { StoresBy (is_told pass.old.known.seen) taken.now pass.old.known pass.new.known result }
+        ensures stores { StoresBy (is_told pass.old.known.seen) (shown_in pass.new.shown.items) taken.now pass.old.known pass.new.known result }
         ensures same { IsSamePass pass.old.known pass.new.known }
         ensures shown { pass.new.shown ≡ pass.old.shown }
     {
         let VaultPass {
             known,
-            viewer: _,
+            viewer,
             listed,
         } = pass;
-        self.store_by(rt, alloc, known, listed, taken)
+        let seen = viewer.note();
+        self.store_by(rt, alloc, known, listed, &seen, taken)
     }
 
-    /// Stores a capture for what the lock knows of a pass. May wait.
+    /// Stores a capture for what the lock knows of a pass. What it refers to has to go with what the pass has seen by date. May wait.
     #[tactic(auto, using(crate::proofs::StoreLaws::no_memory, crate::proofs::StoreLaws::committed_later))]
     fn store_by<R: Wait>(
         &self,
@@ -115,12 +115,14 @@ impl<D: Disk> Vault<D> {
         alloc: Global,
         pass: &mut Pass<Noted>,
         listed: &mut Listed,
+        seen: &Note<Item>,
         taken: &Taken,
     ) -> Result<Receipt, StoreFault>
         requires pass { pass.old.lock ≡ self.now }
         requires listed { IsListed pass.old.seen listed.old.note listed.old.whole }
+        requires names { Names pass.old.seen seen.now.of }
         requires fits { Fits taken.now }
-        ensures stores { StoresBy (is_told pass.old.seen) taken.now pass.old pass.new result }
+        ensures stores { StoresBy (is_told pass.old.seen) (shown_in seen.now.items) taken.now pass.old pass.new result }
         ensures same { IsSamePass pass.old pass.new }
         ensures listed { IsListed pass.new.seen listed.new.note listed.new.whole }
         ensures names { KeepsNames pass.old.seen pass.new.seen }
@@ -139,45 +141,22 @@ impl<D: Disk> Vault<D> {
             taken,
             payload,
             digest,
+            seen,
         };
         match self.take(rt, pass, listed, first) {
             FirstAnswer::Compared(looked) => {
-                self.commit(rt, alloc, pass, listed, taken, digest, looked)
+                let second = Commit {
+                    rt,
+                    alloc,
+                    taken,
+                    digest,
+                    looked,
+                    seen,
+                };
+                self.take(rt, pass, listed, second)
             }
             FirstAnswer::Whole(answer) => answer,
         }
-    }
-
-    /// Stores a capture whose payload was looked for. May wait.
-    fn commit<R: Wait>(
-        &self,
-        rt: &R,
-        alloc: Global,
-        pass: &mut Pass<Noted>,
-        listed: &mut Listed,
-        taken: &Taken,
-        digest: Digest,
-        looked: Looked,
-    ) -> Result<Receipt, StoreFault>
-        requires pass { pass.old.lock ≡ self.now }
-        requires begun { IsBegun pass.old.seen }
-        requires fits { Fits taken.now }
-        requires digest { IsDigestOf taken.now digest }
-        requires right { (found : List Noted) → Shows by_of pass.old.passes pass.old.numbers pass.old.seen found → IsRightOf (told_in (is_told pass.old.seen) found) taken.now looked }
-        ensures turn { Turn by_of pass.old pass.new.seen (λ found added. Commits (is_told pass.old.seen) taken.now found added result) }
-        ensures same { IsSamePass pass.old pass.new }
-        ensures listed { IsListed pass.new.seen listed.new.note listed.new.whole }
-        ensures names { KeepsNames pass.old.seen pass.new.seen }
-        ensures told { is_told pass.new.seen ≡ is_told pass.old.seen }
-    {
-        let commit = Commit {
-            rt,
-            alloc,
-            taken,
-            digest,
-            looked,
-        };
-        self.take(rt, pass, listed, commit)
     }
 
     /// Brings a capture. May wait.

@@ -2,7 +2,7 @@
 use Rattle.std.proofs.Common.{ap, ◌∙◌}
 use Rattle.index_snapshot.specs.Edges.{Edge}
 use Rattle.vault_turns.specs.declared.item.Item.{Item}
-use Rattle.vault.proofs.BringLaws.{names_one}
+use Rattle.vault_turns.proofs.SeenLaws.{names_one}
 use Rattle.vault.proofs.pass.VaultPass.shows_all.Goals as goal
 
 pub begins-requires : goal.begins-requires

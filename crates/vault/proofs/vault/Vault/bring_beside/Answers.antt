@@ -7,7 +7,8 @@ use Rattle.history_lock.specs.Seen.{Turn}
 use Rattle.vault_turns.specs.History.{by_of, is_told}
 use Rattle.vault_turns.specs.Items.{shown_in}
 use Rattle.vault_turns.specs.Turns.{BringsIt}
-use Rattle.vault.proofs.BringLaws.{names_one, prefix_if, turn_brings, turn_held}
+use Rattle.vault_turns.proofs.SeenLaws.{names_one, prefix_if}
+use Rattle.vault.proofs.BringLaws.{turn_brings, turn_held}
 use Rattle.vault.proofs.vault.Vault.bring_beside.Goals as goal
 
 pub begins-agrees-requires : goal.begins-agrees-requires

@@ -6,7 +6,8 @@ use Rattle.history_lock.specs.Seen.{Turn}
 use Rattle.vault_turns.specs.History.{by_of, is_told}
 use Rattle.vault_turns.specs.Items.{shown_in}
 use Rattle.vault_turns.specs.Turns.{GivesIt}
-use Rattle.vault.proofs.BringLaws.{names_one, piece_held, prefix_if, turn_gives}
+use Rattle.vault_turns.proofs.SeenLaws.{names_one, prefix_if}
+use Rattle.vault.proofs.BringLaws.{piece_held, turn_gives}
 use Rattle.vault.proofs.vault.Vault.piece_beside.Goals as goal
 
 pub begins-agrees-requires : goal.begins-agrees-requires
