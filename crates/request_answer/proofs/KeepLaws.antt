@@ -269,6 +269,8 @@ module _ (alone : Bool) (site : Site) (e : Exchange) (closes : Bool) (date : ℕ
         receipt = receipt;
         number_is = h.leaves.number;
         refers = h.leaves.refers;
+        by_digest = h.leaves.by_digest;
+        as_shown = h.leaves.as_shown;
         gained = h.leaves.gained;
         by_rule = h.leaves.by_rule;
         there = there_is payload receipt was is law has consistent h;

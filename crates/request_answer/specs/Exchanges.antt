@@ -3,7 +3,7 @@
 use Rattle.std.specs.Prelude.{◌≡◌, ◌⊎◌, ℕ, ◌<◌, ◌≤◌, List, [], ◌∷◌, length, IsTrue, Result, Ok, Err, Some, None}
 use Rattle.index_entry.specs.OfBook.{AreEntries}
 use Rattle.archive_shelf.specs.Answers.{IsDamaged, HasVolumeAlone}
-use Rattle.archive_shelf.specs.Comparing.{CanRefer}
+use Rattle.archive_shelf.specs.Comparing.{CanRefer, RefersAsShown, RefersByDigest}
 use Rattle.archive_shelf.specs.Contents.{LeadsShown}
 use Rattle.archive_shelf.specs.Storing.{Gains, as_stored, Storing, stored_by}
 use Rattle.archive_shelf.specs.declared.receipt.Receipt.{Receipt}
@@ -71,8 +71,8 @@ pub record HasRoom (terms : Terms) (e : Exchange) (traces : Traces) : Type 0 whe
 -- ---- the response
 
 -- The origin's response was passed on, and it is the archive's last capture: there was room, it alone was gained, by the rule of
--- storing, with its entry if it has one, and its payload there is that of the bytes that the link gave. Alone what is shown are the
--- entries of the book.
+-- storing, with its entry if it has one, and its payload there is that of the bytes that the link gave. Whatever is told, what it refers to
+-- has the digest of its payload. Alone what is shown are the entries of the book.
 pub record IsPassedOn (terms : Terms) (e : Exchange) (received : Received) (payload : List ℕ) (traces : Traces) : Type 0 where
   pub fetched : Fetched e (Ok received) traces
   pub payload_is : IsPayload received.cut received.framing received.wire payload
@@ -80,6 +80,8 @@ pub record IsPassedOn (terms : Terms) (e : Exchange) (received : Received) (payl
   pub receipt : Receipt
   pub number_is : receipt.number ≡ length (captures traces.before.book)
   pub refers : CanRefer received.cut traces.before.book receipt.same_as
+  pub by_digest : RefersByDigest traces.before.book (taken_of e fetched.date received) receipt.same_as
+  pub as_shown : RefersAsShown traces.after.shown (taken_of e fetched.date received) receipt.same_as
   pub gained : Gains traces.before.book (as_stored (taken_of e fetched.date received) receipt.same_as) traces.after.book
   pub by_rule : IsTrue terms.tells
       → (storing : Storing terms.limits.volume_bytes traces.before.book (taken_of e fetched.date received))
