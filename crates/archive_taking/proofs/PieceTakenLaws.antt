@@ -6,7 +6,7 @@ use Rattle.capture.specs.declared.book.Book.{Book}
 use Rattle.disk_model.specs.Image.{Image}
 use Rattle.disk_model.specs.declared.disk.Disk.{Ghosts}
 use Rattle.warc_journal.specs.Extents.{cdxj_files}
-use Rattle.warc_journal.specs.Journals.{IsInStep, Rests, disk_of, last_len, texts}
+use Rattle.warc_journal.specs.Journals.{IsInStep, Rests, disk_of, extent_of, last_len, texts}
 use Rattle.warc_journal.specs.Texts.{with_more}
 use Rattle.warc_journal.specs.declared.extent.Extent.{Extent}
 use Rattle.warc_journal.specs.declared.journal.Journal.{Journal}
@@ -59,7 +59,7 @@ ends_by d was mid looks = ap (λ (e : Extent). e.end) looks.extent
 
 pub remains_by : {D : Type 0} (d : Ghosts D) (was mid : Holdings D) → OnlyLooks d was mid → Remains d was mid
 remains_by {D} d was mid looks =
-    (ap (λ (h : Holdings D). contents_of h) looks.others, ends_by d was mid looks, looks.bytes, looks.unwritten)
+    (ap (λ (h : Holdings D). contents_of h) looks.others, looks.extent, looks.bytes, looks.unwritten)
 
 pub no_parts : {D : Type 0} (d : Ghosts D) → DiskLaws d → (was : Holdings D) (bytes : List ℕ) → length (captures was.book) < was.limits.captures
     → (IsTrue was.told → HasNoParts was.book bytes) → TakesPiece d was was bytes (failed pieces.NotAPiece)
@@ -299,7 +299,7 @@ module _ {D : Type 0} (d : Ghosts D) (was mid : Holdings D) (looks : OnlyLooks d
       untouched_remains same =
           let told_same : told_of d mid ≡ told_of d is = λ i. told_on d (disk_of (sym same.journal i)) (sym same.contents i) in (
             same.contents ∙ ap (λ (h : Holdings D). contents_of h) looks.others,
-            ap (λ (j : Journal D). last_len j) same.journal ∙ ends_by d was mid looks,
+            ap (λ (j : Journal D). extent_of j) same.journal ∙ looks.extent,
             λ tells. subst (λ (j : Journal D). Rests d (disk_of was.journal) (disk_of j)) (sym same.journal) (looks.bytes tells),
             subst (λ t. WritesNothing true (told_of d was) t) told_same looks.unwritten,
           )

@@ -6,7 +6,7 @@ use Rattle.capture.specs.declared.book.Book.{Book}
 use Rattle.index_entry.specs.Facts.{Facts}
 use Rattle.disk_model.specs.declared.disk.Disk.{Ghosts}
 use Rattle.warc_journal.specs.Extents.{cdxj_files}
-use Rattle.warc_journal.specs.Journals.{disk_of, last_len, Rests}
+use Rattle.warc_journal.specs.Journals.{disk_of, extent_of, last_len, Rests}
 use Rattle.warc_journal.specs.Texts.{with_more}
 use Rattle.warc_text.specs.Books.{IsGroupText}
 use Rattle.warc_text.specs.Sound.{IsSound}
@@ -109,8 +109,8 @@ pub record IsUntaken {D : Type 0} (d : Ghosts D) (was is : Holdings D) (bytes : 
   pub unput : IsUnput d was is (record { text = read.text; group = group; first = first; begins = begins })
   pub takes : IsTrue was.told → Takes was.book bytes (book_by was.book begins group first)
 
--- What taking a piece leaves. It is full before the piece is looked at; want of memory may be answered anywhere, and then all that is told stays, and
--- nothing was written.
+-- What taking a piece leaves. It is full before the piece is looked at; want of memory may be answered anywhere, and then all that is told stays, the
+-- volumes reach as far as they did, and nothing was written.
 abbrev pub PieceLeaves : {D : Type 0} → Ghosts D → Holdings D → Holdings D → List ℕ → Result ℕ PieceFault → Type 0
 PieceLeaves d was is bytes (Ok number) = (length (captures was.book) < was.limits.captures) × HasTaken d was is bytes number
 PieceLeaves d was is bytes (Err (pieces.Full count limit)) =
@@ -122,7 +122,7 @@ PieceLeaves d was is bytes (Err pieces.DiskFault) =
 PieceLeaves d was is bytes (Err (pieces.Damaged number kept found)) =
     (length (captures was.book) < was.limits.captures) × OnlyLooks d was is × (number < length (captures was.book)) × IsDamaged was.told kept found
 PieceLeaves d was is bytes (Err pieces.Memory) =
-    (contents_of is ≡ contents_of was) × (last_len is.journal ≡ last_len was.journal)
+    (contents_of is ≡ contents_of was) × (extent_of is.journal ≡ extent_of was.journal)
     × (IsTrue d.tells → Rests d (disk_of was.journal) (disk_of is.journal)) × WritesNothing true (told_of d was) (told_of d is)
 
 -- a piece was taken, or refused

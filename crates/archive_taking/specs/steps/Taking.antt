@@ -2,7 +2,7 @@
 use Rattle.std.specs.Prelude.{ℕ, Bool, List, Option, Result, Ok, Err, ◌≡◌, ◌⊎◌, true, IsTrue}
 use Rattle.capture.specs.declared.book.Book.{Book}
 use Rattle.archive_shelf.specs.Told.{WritesNothing}
-use Rattle.warc_journal.specs.Journals.{Rests, disk_of, last_len}
+use Rattle.warc_journal.specs.Journals.{Rests, disk_of, extent_of}
 use Rattle.disk_model.specs.declared.disk.Disk.{Ghosts}
 use Rattle.warc_scan.specs.Groups.{IsGroup}
 use Rattle.warc_scan.specs.declared.group.Group.{Group}
@@ -34,8 +34,8 @@ disk_failed = Err pieces.DiskFault
 abbrev pub parts_as : List ℕ → Group → Option ℕ → Option ℕ → Parts
 parts_as text group first begins = record { text = text; group = group; first = first; begins = begins }
 
--- all that is told of it stays, and nothing was written
+-- all that is told of it stays, its volumes reach as far as they did, and nothing was written
 abbrev pub Remains : {D : Type 0} → Ghosts D → Holdings D → Holdings D → Type 0
 Remains d was is =
-    (contents_of is ≡ contents_of was) × (last_len is.journal ≡ last_len was.journal)
+    (contents_of is ≡ contents_of was) × (extent_of is.journal ≡ extent_of was.journal)
     × (IsTrue d.tells → Rests d (disk_of was.journal) (disk_of is.journal)) × WritesNothing true (told_of d was) (told_of d is)
