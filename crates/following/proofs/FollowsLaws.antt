@@ -7,6 +7,7 @@ use Rattle.command.specs.Settling.{IsOf}
 use Rattle.disk_model.specs.Crash.{Leaves}
 use Rattle.warc_journal.specs.Extents.{cdxj_files}
 use Rattle.archive_reopening.specs.Known.{by_checkpoints}
+use Rattle.archive_reopening.specs.Standing.{KeepsOn}
 use Rattle.archive_core.specs.Told.{told_of}
 use Rattle.archive_shelf.proofs.CallLaws.{no_more}
 use Rattle.archive_shelf.specs.Answers.{CountsIf}
@@ -72,10 +73,10 @@ moves_so disks was is before after Allowed same_before same_after moves =
 follows_left : {D N M C O : Type 0} (disks : Disks D) (dialers : Dialers N M) (sinks : Sinks O) (tells : Bool) (known : Option Book) → (laws : DiskLaws disks) (asked : Option (List ℕ)) (site : Site)
     (was is : Objects D ⊤ (N × C) O) (status : Status) (held left : Holdings D)
     → IsOpened disks (by_checkpoints was.disk asked known) held → (IsTrue held.told → Leaves (disks.images (disk_of held.journal)) (IsOf held.book))
-    → (IsTrue left.told → OpensNear disks (disk_of left.journal) left.book)
+    → (IsTrue disks.tells → KeepsOn disks was.disk held.journal) → (IsTrue left.told → OpensNear disks (disk_of left.journal) left.book)
     → FollowsTo disks dialers sinks tells (source_of site) held left was.crew.0 is.crew.0 (printed_as was.out is.out status)
     → is.crew.1 ≡ was.crew.1 → Follows disks dialers sinks tells known asked site was (record is { disk = disk_of left.journal }) status
-follows_left disks dialers sinks tells known laws asked site was is status held left opened are near follows clock =
+follows_left disks dialers sinks tells known laws asked site was is status held left opened are standing near follows clock =
     let f = follows.followed in
     let stays = f.goes_on.same_told in
     let quiet = opened.is.quiet in
@@ -86,6 +87,9 @@ follows_left disks dialers sinks tells known laws asked site was is status held 
       follows = follows;
       closed = refl;
       near = λ told. near (stays ∙ told);
+      bytes = λ so.
+          let on = standing so in
+          record { stood = on.stood; on = on.on; lasts = (f.goes_on.stands so on.stood on.keeps).lasts };
       right = λ told image now.
           let before = f.goes_on.kept (cdxj_files image) (stays ∙ told, image, now, refl) in
           checkpoints_later held.book left.book image f.goes_on.grows
@@ -116,11 +120,12 @@ follows_left disks dialers sinks tells known laws asked site was is status held 
 pub follows_by : {D N M C O : Type 0} (disks : Disks D) (dialers : Dialers N M) (sinks : Sinks O) (tells : Bool) (known : Option Book) → (laws : DiskLaws disks) (asked : Option (List ℕ))
     (site : Site) (was is : Objects D ⊤ (N × C) O) (out_opened : O) (status : Status) (held left : Holdings D)
     → IsOpened disks (by_checkpoints was.disk asked known) held → (IsTrue held.told → Leaves (disks.images (disk_of held.journal)) (IsOf held.book))
-    → is.disk ≡ disk_of left.journal → out_opened ≡ was.out → (IsTrue left.told → OpensNear disks is.disk left.book)
+    → (IsTrue disks.tells → KeepsOn disks was.disk held.journal) → is.disk ≡ disk_of left.journal → out_opened ≡ was.out
+    → (IsTrue left.told → OpensNear disks is.disk left.book)
     → FollowsTo disks dialers sinks tells (source_of site) held left was.crew.0 is.crew.0 (printed_as out_opened is.out status)
     → is.crew.1 ≡ was.crew.1 → Follows disks dialers sinks tells known asked site was is status
-follows_by {D} {N} {M} {C} {O} disks dialers sinks tells known laws asked site was is out_opened status held left opened are closed silent near follows clock =
+follows_by {D} {N} {M} {C} {O} disks dialers sinks tells known laws asked site was is out_opened status held left opened are standing closed silent near follows clock =
     subst (λ (x : D). Follows disks dialers sinks tells known asked site was (record is { disk = x }) status) (sym closed)
-    (follows_left disks dialers sinks tells known laws asked site was is status held left opened are
+    (follows_left disks dialers sinks tells known laws asked site was is status held left opened are standing
     (λ told. subst (λ (x : D). OpensNear disks x left.book) closed (near told))
     (subst (λ (o : O). FollowsTo disks dialers sinks tells (source_of site) held left was.crew.0 is.crew.0 (printed_as o is.out status)) silent follows) clock)

@@ -16,6 +16,7 @@ use Rattle.outside.specs.declared.dialer.Dialer.{Ghosts as Dialers}
 use Rattle.outside.specs.declared.sink.Sink.{Ghosts as Sinks}
 use Rattle.replica.specs.Following.{HasFollowed, HaveIds, IsOfRefused, IsOnWay, OpensAtLast, OpensBehind, is_disk_stop, is_outside_stop}
 use Rattle.archive_reopening.specs.Known.{by_checkpoints}
+use Rattle.archive_reopening.specs.Standing.{KeepsFinished}
 use Rattle.command.specs.Objects.{Objects}
 use Rattle.command.specs.Opening.{IsOpened}
 use Rattle.command.specs.Printing.{LacksMemory, Printed, Prints, printed_as}
@@ -50,6 +51,8 @@ module _ {D N M C O : Type 0} (disks : Disks D) (dialers : Dialers N M) (sinks :
     pub follows : FollowsTo disks dialers sinks tells (source_of site) before after was.crew.0 is.crew.0 (printed_as was.out is.out status)
     pub closed : is.disk ≡ disk_of after.journal
     pub near : IsTrue before.told → OpensNear disks is.disk after.book
+    -- whatever is told of the book, no finished text of its volumes lost a byte, at whatever moment a crash stopped that
+    pub bytes : IsTrue disks.tells → KeepsFinished disks was.disk is.disk
     -- the finished checkpoints of each image that a crash may leave are those of its sealed volumes
     pub right : IsTrue before.told → Leaves (disks.images is.disk) (λ image. HasCheckpointsOf image after.book)
     pub covered : IsTrue before.told → StaysCovered (crash_of disks was.disk) (crash_of disks is.disk)

@@ -24,8 +24,9 @@ use Rattle.exchange.specs.declared.aim.Target.{Target}
 use Rattle.exchange.specs.declared.fetching.FetchFault.TheVariants as fetches
 use Rattle.outside.specs.Records.{Links}
 use Rattle.outside.specs.declared.dialer.Transcript.{Transcript}
+use Rattle.replica.proofs.StoodLaws.{stands_behind}
 use Rattle.replica.proofs.TakeLaws.{IsTakenSo, IsUntakenSo, taken_so, untaken_so}
-use Rattle.replica.specs.Following.{AreTaken, AsksNext, EndsBy, GoesOn, HasFollowed, IsRoomFor, Leads, MayLeave, OpensAtLast, OpensBehind, Step, TakesNext, is_disk_stop}
+use Rattle.replica.specs.Following.{AreTaken, AsksNext, EndsBy, GoesOn, HasFollowed, IsRoomFor, KeepsWhatStood, Leads, MayLeave, OpensAtLast, OpensBehind, Step, TakesNext, is_disk_stop}
 use Rattle.archive_pieces.specs.NextPieces.{Takes}
 use Rattle.archive_taking.specs.TakingPieces.{TakesPiece}
 use Rattle.replica.specs.declared.asking.SourceFault.{SourceFault}
@@ -59,6 +60,7 @@ module _ {D : Type 0} (d : Disks D) (source : Target) (tells : Bool) where
     later = omega arith;
     covered = λ t le all. all;
     kept = λ files has. has;
+    stands = λ so stood keeps. keeps;
   }
 
   goes_on_both : (was mid is : Holdings D) → GoesOn d source tells was mid → GoesOn d source tells mid is → GoesOn d source tells was is
@@ -69,6 +71,7 @@ module _ {D : Type 0} (d : Disks D) (source : Target) (tells : Bool) where
     later = omega (arith, a.later, b.later);
     covered = λ t le all. b.covered t (omega (arith, le, a.later)) (a.covered t le all);
     kept = λ files has. a.kept files (b.kept files has);
+    stands = λ so stood keeps. b.stands so stood (a.stands so stood keeps);
   }
 
   -- ---- what is told after a call that writes
@@ -91,14 +94,15 @@ module _ {D : Type 0} (d : Disks D) (source : Target) (tells : Bool) where
         subst (λ (told : Bool). Moves (told_of d was).crash (crash_of (muted told d) (disk_of is.journal)) (λ x. SameBook x was.book ⊎ ((x ≡ room) ⊎ (x ≡ after))))
         (sym same) (w.moves ids)
 
-    goes_on_by : Grows was.book is.book → is.limits ≡ was.limits → GoesOn d source tells was is
-    goes_on_by grows limits = record {
+    goes_on_by : Grows was.book is.book → is.limits ≡ was.limits → KeepsWhatStood d was is → GoesOn d source tells was is
+    goes_on_by grows limits stands = record {
       grows = grows;
       same_limits = limits;
       same_told = same;
       later = later_by;
       covered = covered_by;
       kept = kept_by;
+      stands = stands;
     }
 
   -- ---- a piece more
@@ -139,14 +143,15 @@ module _ {D : Type 0} (d : Disks D) (source : Target) (tells : Bool) where
       (⊎_elim (λ same. same) (λ other. absurd (false≢true (ap is_some other))) (only x o))
   last_alone mid reached (s ∷ steps) links links_is taken only x o = o
 
-  pub followed_more : (was mid is : Holdings D) (links_was links_mid links_is : Links Transcript) (piece : List ℕ) (result : Result ⊤ Stop)
+  pub followed_more : DiskLaws d → (was mid is : Holdings D) (links_was links_mid links_is : Links Transcript) (piece : List ℕ) (result : Result ⊤ Stop)
       → AsksNext d source tells was links_was links_mid (Ok (Some piece)) → TakesPiece d was mid piece (Ok (length (captures was.book)))
       → HasFollowed d source tells mid is links_mid links_is result → HasFollowed d source tells was is links_was links_is result
-  followed_more was mid is links_was links_mid links_is piece result asks takes f =
+  followed_more laws was mid is links_was links_mid links_is piece result asks takes f =
       let step : Step D = record { piece = piece; before = was; after = mid; links = links_mid } in
       let t = taken_so d was mid piece (length (captures was.book)) takes.leaves.1 in
       let same = t.same_told in
-      let first = goes_on_by was mid same t.room mid.book mid.book _ t.writes (taken_grows was mid piece _ t) t.limits in
+      let first = goes_on_by was mid same t.room mid.book mid.book _ t.writes (taken_grows was mid piece _ t) t.limits
+      (stands_behind d laws was mid piece (Ok (length (captures was.book))) takes) in
       record {
         steps = step ∷ f.steps;
         reached = f.reached;
@@ -173,11 +178,11 @@ module _ {D : Type 0} (d : Disks D) (source : Target) (tells : Bool) where
   pub leads_itself : (now : Holdings D) (links : Links Transcript) → Leads d source tells now now links links
   leads_itself now links = record { leads = λ is links_is result f. f }
 
-  pub leads_more : (was now mid : Holdings D) (links_was links_now links_mid : Links Transcript) → Leads d source tells was now links_was links_now
+  pub leads_more : DiskLaws d → (was now mid : Holdings D) (links_was links_now links_mid : Links Transcript) → Leads d source tells was now links_was links_now
       → TakesNext d source tells now mid links_now links_mid (Ok true) → Leads d source tells was mid links_was links_mid
-  leads_more was now mid links_was links_now links_mid l takes = record {
+  leads_more laws was now mid links_was links_now links_mid l takes = record {
     leads = λ is links_is result f. l.leads is links_is result
-        (followed_more now mid is links_now links_mid links_is takes.0 result takes.1 takes.2 f);
+        (followed_more laws now mid is links_now links_mid links_is takes.0 result takes.1 takes.2 f);
   }
 
   -- ---- how it ends
@@ -233,6 +238,7 @@ module _ {D : Type 0} (d : Disks D) (source : Target) (tells : Bool) where
         later = crash.later;
         covered = crash.covered;
         kept = crash.kept;
+        stands = stands_behind d laws was is piece (Err fault) takes;
       };
       faults = takes.faults;
       moves = λ ids last t x le o. inl (no_more (crash.moves t x le o));
@@ -283,7 +289,8 @@ module _ {D : Type 0} (d : Disks D) (source : Target) (tells : Bool) where
           refused = piece;
           taken = (refl, refl);
           ends = (number_is, asks, takes);
-          goes_on = goes_on_by was is same u.room u.after is.book _ u.writes (left_grows u.room u.roomy u.left) u.limits;
+          goes_on = goes_on_by was is same u.room u.after is.book _ u.writes (left_grows u.room u.roomy u.left) u.limits
+              (stands_behind d laws was is piece (Err pieces.DiskFault) takes);
           faults = takes.faults;
           moves = λ ids last t x le o. ⊎_elim
               (λ older. inl older)

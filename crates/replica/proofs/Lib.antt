@@ -1,3 +1,4 @@
 pub mod FollowLaws
 mod FrontLaws
+mod StoodLaws
 mod TakeLaws

@@ -1,6 +1,7 @@
 -- Pieces of a source that an archive takes one after the other, up to the source's end or a stop, and what that leaves.
 use Rattle.std.specs.Prelude.{◌≡◌, ◌⊎◌, ℕ, ◌≤◌, Bool, true, false, IsTrue, List, [], ◌∷◌, ◌++◌, length, Option, Some, None, Result, Ok, Err, ⊤}
 use Rattle.archive_core.specs.Holdings.{Holdings}
+use Rattle.archive_core.specs.Stood.{KeepsStood, Stood}
 use Rattle.archive_core.specs.Told.{told_of}
 use Rattle.archive_shelf.specs.Answers.{CountsIf}
 use Rattle.archive_shelf.specs.Openings.{HasIds, KeepsCheckpoints, Moves, SameBook, StaysCovered}
@@ -77,6 +78,10 @@ OpensAtLast other piece reached last Before x = Before x
 
 -- ---- the whole
 
+-- where the disk tells, whatever is told of the book: what stood finished in the volumes stands there still, at whatever moment a crash stops that
+abbrev pub KeepsWhatStood : {D : Type 0} → Disks D → Holdings D → Holdings D → Type 0
+KeepsWhatStood d was is = IsTrue d.tells → (stood : Stood) → KeepsStood d stood was.journal → KeepsStood d stood is.journal
+
 -- a fault of the disk, or of the dialer, is why no more was taken
 abbrev pub is_disk_stop : Result ⊤ Stop → Bool
 is_disk_stop (Ok done) = false
@@ -109,7 +114,8 @@ module _ {D : Type 0} (d : Disks D) (source : Target) (tells : Bool) where
   EndsBy (Err (Piece number fault)) piece reached links now links_is =
       (number ≡ length (captures reached.book)) × AsksNext reached links links_is (Ok (Some piece)) × TakesPiece d reached now piece (Err fault)
 
-  -- Whatever was taken: the book has only grown, limits and what is told stay, and each image stands for a book where it did.
+  -- Whatever was taken: the book has only grown, limits and what is told stay, each image stands for a book where it did, and no text that stood
+  -- finished lost a byte.
   pub record GoesOn (was is : Holdings D) : Type 0 where
     pub grows : Grows was.book is.book
     pub same_limits : is.limits ≡ was.limits
@@ -117,6 +123,7 @@ module _ {D : Type 0} (d : Disks D) (source : Target) (tells : Bool) where
     pub later : (told_of d was).crash.moment ≤ (told_of d is).crash.moment
     pub covered : StaysCovered (told_of d was).crash (told_of d is).crash
     pub kept : KeepsCheckpoints (told_of d was).crash (told_of d is).crash
+    pub stands : KeepsWhatStood d was is
 
   -- The source was followed to its end, or to a stop.
   pub record HasFollowed (was is : Holdings D) (links_was links_is : Links Transcript) (result : Result ⊤ Stop) : Type 0 where

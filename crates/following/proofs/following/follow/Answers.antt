@@ -24,8 +24,8 @@ returns g c =
     c.in-Ok.ensures.opened in
     inl (follows_by g.D.Disk g.N.Dialer g.O.Sink g.N.Link.Link.tells g.K.Known.book (disk_laws g) asked c.args.site.now (objects_of c.args.disk tt c.args.member.now c.args.out.now)
     (objects_of c.close.result tt _ c.follow_site-status.new.out) c.open.new.out c.follow_site-status.result c.in-Ok.archive c.follow_site-status.new.archive
-    opened (opened_is_of g.D.Disk c.args.disk asked g.K.Known.book c.requires.known c.in-Ok.archive opened.is) c.close.ensures.disk c.in-Ok.ensures.prints_nothing
-    c.close.ensures.near c.follow_site-status.ensures refl)
+    opened (opened_is_of g.D.Disk c.args.disk asked g.K.Known.book c.requires.known c.in-Ok.archive opened.is) (c.in-Ok.ensures.stood refl) c.close.ensures.disk
+    c.in-Ok.ensures.prints_nothing c.close.ensures.near c.follow_site-status.ensures refl)
 
 pub open-requires-clause-uuid : goal.open-requires-clause-uuid
 open-requires-clause-uuid g c = subst (λ (asked : Option (List ℕ)). IfSome asked IsUuid) (sym c.asked_of.ensures) c.requires.uuid

@@ -22,7 +22,7 @@ pub following-preserved : goal.following-preserved
 following-preserved g c =
     let next = rw c.in-Ok-true.field-0-test at c.in-Ok-true.ensures.takes in
     let taken = taken_so g.D.Disk c.following.archive c.take_next.new.archive next.0 _ next.2.leaves.1 in record {
-      leads = leads_more g.D.Disk c.args.source.now g.N.Link.Link.tells c.args.archive.now c.following.archive c.take_next.new.archive _ _ _
+      leads = leads_more g.D.Disk c.args.source.now g.N.Link.Link.tells (disk_laws g) c.args.archive.now c.following.archive c.take_next.new.archive _ _ _
           c.following.invariant.leads next;
       limits = taken.limits ∙ c.following.invariant.limits;
       faults = c.in-Ok-true.ensures.counts ∙ c.following.invariant.faults;
