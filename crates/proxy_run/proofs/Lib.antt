@@ -8,7 +8,6 @@ mod ReadyLaws
 mod RunLaws
 mod SeatLaws
 mod ServeLaws
-mod StaffLaws
 mod StatusLaws
 mod VaultSeats
 mod VerifiedLaws

@@ -8,8 +8,7 @@ use Rattle.command.specs.Texts.{usage}
 use Rattle.command.specs.declared.status.Status.{Status}
 use Rattle.command.specs.declared.status.Status.TheVariants.{Words}
 use Rattle.command.specs.declared.words.Command.{Command}
-use Rattle.proxy_run.specs.Runs.{IsReady, IsUnready, Runs, RunsFrom, threads_of}
-use Rattle.proxy_run.specs.Staffing.{IsStaffed}
+use Rattle.proxy_run.specs.Runs.{IsReady, IsUnready, Runs, RunsFrom}
 
 module _ {D G L P N M C O : Type 0} (kinds : Kinds D G L P N M C O) (known : Option Book) (found : Option Command) (site : Option Site)
     (was : Objects D G (List (N × C)) O) where
@@ -19,15 +18,20 @@ module _ {D G L P N M C O : Type 0} (kinds : Kinds D G L P N M C O) (known : Opt
       subst (λ (f : Option Command). RunsFrom kinds known f site was (record was { out = out }) status) (sym none) (record { printed = printed; untouched = refl })
 
   module _ (command : Command) (is_command : found ≡ Some command) where
-    pub runs_ready : (begun : D) (is : Objects D G (List (N × C)) O) (status : Status) (out : O) → IsStaffed kinds.sinks (threads_of found) was.out out
-        → IsReady kinds.disks found site was.disk begun → Runs kinds known command site (record was { disk = begun; out = out }) is status
-        → RunsFrom kinds known found site was is status
-    runs_ready begun is status out staffed ready runs =
-        let has : IsStaffed kinds.sinks (threads_of (Some command)) was.out out =
-        subst (λ (f : Option Command). IsStaffed kinds.sinks (threads_of f) was.out out) is_command staffed in
+    pub runs_ready : (begun : D) (is : Objects D G (List (N × C)) O) (status : Status) (out : O) → out ≡ was.out → IsReady kinds.disks found site was.disk begun
+        → Runs kinds known command site (record was { disk = begun; out = out }) is status → RunsFrom kinds known found site was is status
+    runs_ready begun is status out same ready runs =
         let at : IsReady kinds.disks (Some command) site was.disk begun =
         subst (λ (f : Option Command). IsReady kinds.disks f site was.disk begun) is_command ready in
-        subst (λ (f : Option Command). RunsFrom kinds known f site was is status) (sym is_command) (inr (inl (at.0, inr (out, has, inl (begun, at.1, runs)))))
+        subst (λ (f : Option Command). RunsFrom kinds known f site was is status) (sym is_command)
+        (inr (inl (
+          at.0,
+          inl (
+            begun,
+            at.1,
+            subst (λ (o : O). Runs kinds known command site (record was { disk = begun; out = o }) is status) same runs,
+          ),
+        )))
 
     ended : (disk : D) (out : O) (status : Status) → IsUnready kinds.disks kinds.sinks (Some command) site was.disk disk (printed_as was.out out status)
         → RunsFrom kinds known (Some command) site was (record was { disk = disk; out = out }) status
@@ -35,10 +39,7 @@ module _ {D G L P N M C O : Type 0} (kinds : Kinds D G L P N M C O) (known : Opt
         inl (none, record { printed = printed; untouched = ap (λ (d : D). record was { disk = d; out = out }) same })
     ended disk out status (inl (inr lacks, same)) =
         inr (inr (lacks.status_is, ap (λ (d : D). record was { disk = d; out = out }) same ∙ ap (λ (o : O). record was { out = o }) lacks.same))
-    ended disk out status (inr (inl (named, lacks, same))) =
-        inr (inl (named, inl (lacks, ap (λ (d : D). record was { disk = d; out = out }) same)))
-    ended disk out status (inr (inr (told, named, has, stores, fails))) =
-        inr (inl (named, inr (told, has, inr (stores, record { begun = fails; untouched = refl }))))
+    ended disk out status (inr (named, stores, fails)) = inr (inl (named, inr (stores, record { begun = fails; untouched = refl })))
 
     pub runs_unready : (disk : D) (out : O) (status : Status) → IsUnready kinds.disks kinds.sinks found site was.disk disk (printed_as was.out out status)
         → RunsFrom kinds known found site was (record was { disk = disk; out = out }) status

@@ -10,16 +10,16 @@ use Rattle.archive_reopening.specs.Known.{Opening, by_checkpoints, opening_of}
 use Rattle.command.specs.Objects.{Kinds, Objects, objects_of, with_one}
 use Rattle.command.specs.Opening.{IsNotOpened}
 use Rattle.proxy_run.specs.Pipes.{Pipes, Refuses}
-use Rattle.command.specs.Printing.{Prints, printed_as}
+use Rattle.command.specs.Printing.{printed_as}
 use Rattle.proxy_run.specs.Runs.{NamesNone, Runs}
-use Rattle.command.specs.Texts.{usage}
+use Rattle.proxy_run.specs.Serves.{LacksShelves, Serves}
 use Rattle.load_trial.specs.Trials.{Tries}
 use Rattle.verifying.specs.Verifies.{IsVerified}
 use Rattle.command.specs.Words.{asked_of}
 use Rattle.command.specs.declared.status.Status.{Status}
-use Rattle.command.specs.declared.status.Status.TheVariants.{Memory, Words}
+use Rattle.command.specs.declared.status.Status.TheVariants.{Memory}
 use Rattle.command.specs.declared.words.Command.{Command}
-use Rattle.command.specs.declared.words.Command.TheVariants.{Check, Follow, Import, Pipe, Trial, Verify}
+use Rattle.command.specs.declared.words.Command.TheVariants.{Check, Follow, Import, Pipe, Serve, Trial, Verify}
 
 module _ {D G L P N M C O : Type 0} (kinds : Kinds D G L P N M C O) (known : Option Book) (site : Option Site) where
   checked : (was : Objects D G (List (N × C)) O) (disk : D) (out : O) (status : Status)
@@ -158,3 +158,43 @@ module _ {D G L P N M C O : Type 0} (kinds : Kinds D G L P N M C O) (known : Opt
   follow_siteless command namespace was out status is_follow none =
       subst (λ (c : Command). Runs kinds known c site was (record was { out = out }) status) (sym is_follow)
       (siteless namespace was out status none)
+
+  served : (namespace : List ℕ) (base : Site) (workers : ℕ) (was is : Objects D G (List (N × C)) O) (status : Status)
+      → Serves kinds known (record { asked = Some namespace; site = base; workers = workers }) was is status
+      ⊎ LacksShelves kinds known (Some namespace) was is status
+      ⊎ Refuses kinds (by_checkpoints was.disk (Some namespace) known) was is status
+      → Runs kinds known (Serve namespace workers) (Some base) was is status
+  served namespace base workers was is status (inl serves) = inl serves
+  served namespace base workers was is status (inr (inl lacks)) = inr (inl lacks)
+  served namespace base workers was is status (inr (inr refuses)) = inr (inr (inl refuses))
+
+  pub runs_serve : (command : Command) (namespace : List ℕ) (base : Site) (workers : ℕ) (was is : Objects D G (List (N × C)) O) (status : Status)
+      → command ≡ Serve namespace workers → Some base ≡ site
+      → Serves kinds known (record { asked = Some namespace; site = base; workers = workers }) was is status
+      ⊎ LacksShelves kinds known (Some namespace) was is status
+      ⊎ Refuses kinds (by_checkpoints was.disk (Some namespace) known) was is status
+      → Runs kinds known command site was is status
+  runs_serve command namespace base workers was is status is_serve is_site result =
+      subst (λ (s : Option Site). Runs kinds known command s was is status) is_site
+      (subst (λ (c : Command). Runs kinds known c (Some base) was is status) (sym is_serve) (served namespace base workers was is status result))
+
+  serve_lacking : (namespace : List ℕ) (workers : ℕ) (base : Option Site) (was : Objects D G (List (N × C)) O) (status : Status) → status ≡ Memory
+      → Runs kinds known (Serve namespace workers) base was was status
+  serve_lacking namespace workers None was status memory = inr (memory, refl)
+  serve_lacking namespace workers (Some base) was status memory = inr (inr (inr (memory, refl)))
+
+  siteless_server : (namespace : List ℕ) (workers : ℕ) (was : Objects D G (List (N × C)) O) (out : O) (status : Status)
+      → NamesNone kinds.sinks site was.out out status → Runs kinds known (Serve namespace workers) site was (record was { out = out }) status
+  siteless_server namespace workers was out status (inl (none, printed)) =
+      subst (λ (s : Option Site). Runs kinds known (Serve namespace workers) s was (record was { out = out }) status) (sym none)
+      (inl (record { printed = printed; untouched = refl }))
+  siteless_server namespace workers was out status (inr lacks) =
+      subst (λ (o : O). Runs kinds known (Serve namespace workers) site was (record was { out = o }) status) (sym lacks.same)
+      (serve_lacking namespace workers site was status lacks.status_is)
+
+  pub serve_siteless : (command : Command) (namespace : List ℕ) (workers : ℕ) (was : Objects D G (List (N × C)) O) (out : O) (status : Status)
+      → command ≡ Serve namespace workers → NamesNone kinds.sinks site was.out out status
+      → Runs kinds known command site was (record was { out = out }) status
+  serve_siteless command namespace workers was out status is_serve none =
+      subst (λ (c : Command). Runs kinds known c site was (record was { out = out }) status) (sym is_serve)
+      (siteless_server namespace workers was out status none)

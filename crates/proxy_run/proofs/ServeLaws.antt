@@ -1,5 +1,5 @@
 -- What a server promises, from what it leaves.
-use Rattle.std.proofs.Common.{◌-◌, ◌^◌, ◌≡◌, ◌≢◌, ◌⊎◌, ℕ, suc, ◌+◌, ◌<◌, ◌≤◌, Bool, true, false, IsTrue, IsPermutation, List, [], ◌∷◌, ◌++◌, drop, length, Option, Some, Result, Ok, Err, refl, sym, ap, ◌∙◌, subst, inl, inr, ⊎_elim, true≢false, arith, append_assoc}
+use Rattle.std.proofs.Common.{◌-◌, ◌≡◌, ◌≢◌, ◌⊎◌, ℕ, suc, ◌+◌, ◌≤◌, Bool, true, false, IsTrue, IsPermutation, List, [], ◌∷◌, ◌++◌, drop, length, Option, Some, Result, Ok, Err, refl, sym, ap, ◌∙◌, subst, inl, inr, ⊎_elim, arith, append_assoc}
 use Rattle.std.specs.Prelude.{IfSome, slice_get}
 use Rattle.std.specs.List.{All, flat_map, range_with_len, sum_by}
 use Rattle.std.proofs.lemmas.List.Elements.{All-head, All-tail}
@@ -37,29 +37,24 @@ use Rattle.outside.specs.declared.dialer.Dialer.{Ghosts as Dialers}
 use Rattle.outside.specs.declared.gate.Heard.{Heard}
 use Rattle.outside.specs.declared.sink.Sink.{Ghosts as Sinks}
 use Rattle.crew.specs.Crews.{IsEnd, all_hung_up}
-use Rattle.command.specs.Beginning.{IsBegun}
 use Rattle.command.specs.Objects.{Kinds, Objects}
 use Rattle.command.proofs.OpeningLaws.{only_one}
 use Rattle.command.proofs.SettlingLaws.{closed_all, closed_faults, closed_from, closed_right, closed_rose, ready_consistent, ready_faults, ready_in, ready_none, ready_tells, told_tells}
-use Rattle.command.specs.Printing.{LacksMemory, Prints, PrintsAll}
+use Rattle.command.specs.Printing.{LacksMemory, Prints}
 use Rattle.command.specs.Settling.{ClosesSettled, settled_status}
 use Rattle.proxy_run.proofs.CompleteLaws.{not_risen, printed_or_lacked, refused_known}
 use Rattle.proxy_run.proofs.NextLaws.{all_next, settled_next, sound_still, stands_same}
 use Rattle.proxy_run.specs.Complete.{IsSteady, NoFaults}
 use Rattle.proxy_run.specs.Pipes.{Refuses}
-use Rattle.proxy_run.proofs.StaffLaws.{lack_told, steady_then}
 use Rattle.proxy_run.proofs.StatusLaws.{memory_told, said_by, settled_well}
 use Rattle.proxy_run.proofs.VaultSeats.{IsNewcomer}
 use Rattle.proxy_run.specs.Promises.{AllAreHungUp, AllAreReadOut, AreReadOut, BooksLeadOn, BooksOnlyGrow, CapturesAreStoredOnce, FaultsAreCounted, GatesAreEmptied, IsHeardOut, IsReadOut, LeadTo, LeadsTo, LogsAreInOrder, ServersAreAnswered, ServersCapturesComeBack, ServersLeaveReady, ServersLeaveSettled, ServersLeaveTheLast, ServersWithoutShelvesComeBack, ServersWithoutShelvesLeaveReady, numbers_of, rounds_in, rounds_of}
-use Rattle.proxy_run.specs.Runs.{RunsBegun, RunsFrom}
 use Rattle.proxy_run.specs.Serves.{LacksShelves, Seat, Serves, told_by}
-use Rattle.proxy_run.specs.Staffing.{no_thread}
 use Rattle.command.specs.Gates.{unheard}
 use Rattle.crew.specs.Shifts.{AreShifts, Hand, IsShift, hand_of, hands_of}
 use Rattle.command.specs.Texts.{captures_line}
 use Rattle.command.specs.declared.status.Status.{Status}
 use Rattle.command.specs.declared.status.Status.TheVariants.{Done, Words, Archive, Outside, Memory}
-use Rattle.command.specs.declared.words.Command.TheVariants.{Serve}
 use Rattle.request_answer.specs.Gains.{Setting}
 use Rattle.session.specs.Laws.{CoursesCountFaults, CoursesGrow}
 use Rattle.request_answer.specs.Rounds.{Round, numbers_by}
@@ -80,10 +75,6 @@ stands_last image x was now (inr (none, none₂)) grows sound stands =
     stands_same image x now (inr (none, none₂)) (sound_still was now grows sound none₂) stands
 
 -- ---- the status
-
-done_or_more : {A B C : Type 0} → A ⊎ B → A ⊎ B ⊎ C
-done_or_more (inl done) = inl done
-done_or_more (inr memory) = inr (inl memory)
 
 printed_done : (said printed status : Status) → (said ≡ Memory → status ≡ Memory) → (said ≢ Memory → status ≡ printed) → status ≡ Done → printed ≡ Done
 printed_done Done printed status lacking is done = sym (is (λ memory. cc memory)) ∙ done
@@ -498,36 +489,6 @@ module _ {D G L P N M C O : Type 0} (kinds : Kinds D G L P N M C O) where
       inr (refused_known kinds known (Some namespace) was is status told steady refuses)
   server_answered known namespace site workers was is status told steady (inr (inr (inr lacks))) = inr lacks.0
 
-  -- nothing failed behind the beginning either
-  steady_begun : (was is : Objects D G (List (N × C)) O) (begun : D) → IsBegun kinds.disks was.disk begun → NoFaults kinds was is
-      → NoFaults kinds (record was { disk = begun }) is
-  steady_begun was is begun begins steady = record {
-    disk = record {
-      same = steady.disk.same ∙ sym begins.same_faults;
-      below = subst (λ (n : ℕ). n < 2 ^ 64 - 1) (sym begins.same_faults) steady.disk.below;
-    };
-    gate = steady.gate;
-    out = steady.out;
-  }
-
-  begun_answered : (known : Option Book) (namespace : List ℕ) (site : Site) (workers : ℕ) (was is : Objects D G (List (N × C)) O) (status : Status)
-      → IsTrue (told_at Checkpoints kinds.disks.tells known) → NoFaults kinds was is
-      → RunsBegun kinds known (Serve namespace workers) (Some site) was is status → (status ≡ Done) ⊎ (status ≡ Memory)
-  begun_answered known namespace site workers was is status told steady (inl (begun, begins, runs)) =
-      server_answered known namespace site workers (record was { disk = begun }) is status told (steady_begun was is begun begins steady) runs
-  begun_answered known namespace site workers was is status told steady (inr (stores, fails)) =
-      absurd (not_risen (kinds.disks.faults was.disk) (kinds.disks.faults is.disk) steady.disk fails.begun.rose)
-
-  run_answered : (known : Option Book) (namespace : List ℕ) (site : Site) (workers : ℕ) (was is : Objects D G (List (N × C)) O) (status : Status)
-      → IsTrue (told_at Checkpoints kinds.disks.tells known) → NoFaults kinds was is
-      → RunsFrom kinds known (Some (Serve namespace workers)) (Some site) was is status
-      → (status ≡ Done) ⊎ (status ≡ Memory) ⊎ PrintsAll kinds.sinks Outside no_thread was.out is.out status
-  run_answered known namespace site workers was is status told steady (inl (none, usage)) = absurd (true≢false none)
-  run_answered known namespace site workers was is status told steady (inr (inl (named, inl (lacks, same)))) =
-      inr (lack_told kinds.sinks workers was.out is.out status lacks steady.out)
-  run_answered known namespace site workers was is status told steady (inr (inl (named, inr (out, has, runs)))) =
-      done_or_more (begun_answered known namespace site workers (record was { out = out }) is status told (steady_then kinds known workers was is out has steady) runs)
-  run_answered known namespace site workers was is status told steady (inr (inr (memory, same))) = inr (inl memory)
-
   pub servers_answered : ServersAreAnswered kinds
-  servers_answered known namespace site workers was is status told steady runs = run_answered known namespace site workers was is status told steady runs
+  servers_answered known namespace site workers was is status told steady runs =
+      server_answered known namespace site workers was is status told steady runs

@@ -6,6 +6,5 @@ pub mod Promises
 pub mod Runs
 pub mod Serves
 pub mod Serving
-pub mod Staffing
 pub mod steps
 pub mod Verified

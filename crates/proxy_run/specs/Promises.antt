@@ -15,15 +15,13 @@ use Rattle.disk_model.specs.Image.{Image}
 use Rattle.link_queue.specs.Serving.{all_of}
 use Rattle.outside.specs.declared.gate.Heard.{Heard}
 use Rattle.command.specs.Objects.{Kinds, Objects}
-use Rattle.command.specs.Printing.{PrintsAll}
 use Rattle.proxy_run.specs.Complete.{HoldsAll, IsLeftSettled, IsReadied, IsSteady, NoFaults}
-use Rattle.proxy_run.specs.Runs.{RunsFrom}
+use Rattle.proxy_run.specs.Runs.{Runs}
 use Rattle.proxy_run.specs.Serves.{Duty, LacksShelves, Serves, told_by}
-use Rattle.proxy_run.specs.Staffing.{no_thread}
 use Rattle.crew.specs.Shifts.{AreShifts, Hand, IsShift, hands_of}
 use Rattle.command.specs.Texts.{captures_line}
 use Rattle.command.specs.declared.status.Status.{Status}
-use Rattle.command.specs.declared.status.Status.TheVariants.{Done, Memory, Outside}
+use Rattle.command.specs.declared.status.Status.TheVariants.{Done, Memory}
 use Rattle.command.specs.declared.words.Command.TheVariants.{Serve}
 use Rattle.request_answer.specs.Gains.{Setting, gains_of}
 use Rattle.request_answer.specs.Rounds.{Round}
@@ -205,10 +203,9 @@ module _ {D G L P N M C O : Type 0} (kinds : Kinds D G L P N M C O) where
       (lacks : LacksShelves kinds known asked was is status) → IsTrue (told_at Checkpoints kinds.disks.tells known) → HasIds lacks.before.book
       → (image : Image) (x : Book) → kinds.disks.images is.disk image → ImageStandsFor image x → HoldsAll lacks.before.book x
 
-  -- Where nothing failed from the run's beginning on and the book is known, it goes well, or memory ran out, or there is no thread for a worker, which was printed.
+  -- Where nothing failed and the book is known, it goes well, or memory ran out.
   abbrev pub ServersAreAnswered : Type 0
   ServersAreAnswered =
       (known : Option Book) (namespace : List ℕ) (site : Site) (workers : ℕ) (was is : Objects D G (List (N × C)) O) (status : Status)
       → IsTrue (told_at Checkpoints kinds.disks.tells known) → NoFaults kinds was is
-      → RunsFrom kinds known (Some (Serve namespace workers)) (Some site) was is status
-      → (status ≡ Done) ⊎ (status ≡ Memory) ⊎ PrintsAll kinds.sinks Outside no_thread was.out is.out status
+      → Runs kinds known (Serve namespace workers) (Some site) was is status → (status ≡ Done) ⊎ (status ≡ Memory)

@@ -14,7 +14,6 @@ use Rattle.command.specs.Objects.{Kinds, Objects, UsesFirst, objects_of, with_on
 use Rattle.proxy_run.specs.Pipes.{Pipes, Refuses}
 use Rattle.command.specs.Printing.{LacksMemory, Printed, Prints, printed_as}
 use Rattle.proxy_run.specs.Serves.{LacksShelves, Serves}
-use Rattle.proxy_run.specs.Staffing.{IsStaffed, IsUnstaffed}
 use Rattle.command.specs.Texts.{usage}
 use Rattle.load_trial.specs.Trials.{IsTried}
 use Rattle.verifying.specs.Verifies.{IsVerified}
@@ -53,30 +52,17 @@ LacksBase sinks None site was is result = ⊥
 LacksBase sinks (Some command) site was is result =
     ((is_named (has_base command) site ≡ false) × Prints sinks status.Words usage was is result) ⊎ LacksMemory sinks was is result
 
--- For how many workers threads are looked for, before anything is touched: for those of a server.
-abbrev pub threads_of : Option Command → Option ℕ
-threads_of None = None
-threads_of (Some Check) = None
-threads_of (Some (Follow namespace)) = None
-threads_of (Some (Import namespace)) = None
-threads_of (Some (Pipe namespace)) = None
-threads_of (Some (Serve namespace workers)) = Some workers
-threads_of (Some (Trial count seed)) = None
-threads_of (Some (Verify workers)) = None
-
 -- what the words' command begins with, once its base was looked at
 abbrev pub IsReady : {D : Type 0} → Disks D → Option Command → Option Site → D → D → Type 0
 IsReady disks None site was begun = begun ≡ was
 IsReady disks (Some command) site was begun = IsTrue (is_named (has_base command) site) × BeginsWith disks (stores command) was begun
 
--- It didn't begin: its base is none, or there was no memory to look at it, or there are no threads, and the disk wasn't touched; or the disk failed.
+-- It didn't begin: its base is none, or there was no memory to look at it, and the disk wasn't touched; or the disk failed.
 abbrev pub IsUnready : {D O : Type 0} → Disks D → Sinks O → Option Command → Option Site → D → D → Printed O → Type 0
 IsUnready disks sinks None site was is printed = ⊥
-IsUnready {O = O} disks sinks (Some command) site was is printed =
+IsUnready disks sinks (Some command) site was is printed =
     (LacksBase sinks (Some command) site printed.was printed.is printed.status × (is ≡ was))
-    ⊎ (IsTrue (is_named (has_base command) site) × IsUnstaffed sinks (threads_of (Some command)) printed.was printed.is printed.status × (is ≡ was))
-    ⊎ ((out : O) × IsTrue (is_named (has_base command) site) × IsStaffed sinks (threads_of (Some command)) printed.was out × IsTrue (stores command)
-    × IsNotBegun disks sinks was is (printed_as out printed.is printed.status))
+    ⊎ (IsTrue (is_named (has_base command) site) × IsTrue (stores command) × IsNotBegun disks sinks was is printed)
 
 module _ {D G L P N M C O : Type 0} (kinds : Kinds D G L P N M C O) (known : Option Book) where
   -- the words ask for nothing: the usage was printed, and nothing else was touched
@@ -128,17 +114,10 @@ module _ {D G L P N M C O : Type 0} (kinds : Kinds D G L P N M C O) (known : Opt
       ((begun : D) × BeginsWith kinds.disks (stores command) was.disk begun × Runs command site (record was { disk = begun }) is result)
       ⊎ (IsTrue (stores command) × FailsToBegin was is result)
 
-  -- For a server it is looked first for how many of its workers there is a thread. Where there are fewer than workers that was printed, and where there is none it
-  -- ends so, and nothing else is touched, the disk neither.
-  abbrev pub RunsStaffed : Command → Option Site → Objects D G (List (N × C)) O → Objects D G (List (N × C)) O → Status → Type 0
-  RunsStaffed command site was is result =
-      (IsUnstaffed kinds.sinks (threads_of (Some command)) was.out is.out result × (is ≡ record was { out = is.out }))
-      ⊎ ((out : O) × IsStaffed kinds.sinks (threads_of (Some command)) was.out out × RunsBegun command site (record was { out = out }) is result)
-
   -- The words are looked at before anything is touched: where they ask for nothing, or name no base for a command that needs one, the usage was printed.
   abbrev pub RunsFrom : Option Command → Option Site → Objects D G (List (N × C)) O → Objects D G (List (N × C)) O → Status → Type 0
   RunsFrom None site was is result = Misspells was is result
   RunsFrom (Some command) site was is result =
       ((is_named (has_base command) site ≡ false) × Misspells was is result)
-      ⊎ (IsTrue (is_named (has_base command) site) × RunsStaffed command site was is result)
+      ⊎ (IsTrue (is_named (has_base command) site) × RunsBegun command site was is result)
       ⊎ ((result ≡ status.Memory) × (is ≡ was))

@@ -65,7 +65,7 @@ pub fn pipes_leave_no_choice<D: Disk, G: Gate, N: Dialer, C: Clock, O: Sink>()
 /// those that were there; what each connection begins with has grown into that book; rounds met no more faults of the disk than it
 /// counted; where the disk counted none, each image that a crash may leave stands for the last book, if its ids differ; where it ended
 /// otherwise than for want of memory besides, each has the finished checkpoint of each volume but the last; and where no count of faults rose, over a disk that is settled for a book that is known,
-/// it went well, or memory ran out, or it printed that there is no thread for a worker.
+/// it went well or memory ran out.
 pub fn servers_keep_their_promise<D: Disk, G: Gate, N: Dialer, C: Clock, O: Sink>()
     ensures grow { BooksOnlyGrow (kinds_of D.Disk G.Gate N.Dialer C.Clock O.Sink G.Link.tells N.Link.tells) }
     ensures hung_up { AllAreHungUp (kinds_of D.Disk G.Gate N.Dialer C.Clock O.Sink G.Link.tells N.Link.tells) }

@@ -9,7 +9,6 @@ mod running;
 mod seating;
 mod server;
 mod serving;
-mod staffing;
 
 pub use command::{Known, Unknown};
 pub use laws::{

@@ -1,5 +1,5 @@
 //! The call that the program makes.
-ghost use Rattle.std.specs.Prelude.{◌≡◌, ◌<◌, ◌≤◌, length, IfErr, IfOk, IfSome, OnOk, None, Some};
+ghost use Rattle.std.specs.Prelude.{◌≡◌, ◌<◌, ◌≤◌, length, IfErr, IfOk, IfSome, IsTrue, OnOk, None, Some};
 ghost use Rattle.archive_opening.specs.Telling.{MayBeSettled};
 ghost use Rattle.command.specs.Base.{site_among};
 ghost use Rattle.command.specs.Objects.{kinds_of, objects_of};
@@ -7,14 +7,12 @@ ghost use Rattle.command.specs.Beginning.{MayBegin};
 ghost use Rattle.command.specs.Printing.{printed_as};
 ghost use Rattle.proxy_run.specs.Runs.{HasBase, IsReady, IsUnready, LacksBase, NamesNone, Runs, RunsFrom};
 ghost use Rattle.proxy_run.specs.Runs as runs;
-ghost use Rattle.proxy_run.specs.Staffing.{IsStaffed, IsUnstaffed};
 ghost use Rattle.command.specs.Words as word;
 ghost use Rattle.warc_text.specs.Ids.{IsUuid};
 
 use crate::checking::check;
 use crate::piping::pipe;
 use crate::server::{Service, serve_many};
-use crate::staffing::find_threads;
 use capture::{Memory, Site};
 use command::{Command, Known, Ran, Status, Unknown, begin, command_of, print_as, site_of};
 use disk_model::Disk;
@@ -49,7 +47,7 @@ struct Named<'a> {
 /// member's dialer and clock, and hangs it up; NS is the archive's namespace, a UUID in lower case with hyphens. What the client is
 /// given of an origin stands on the disk first. `serve NS BASE WORKERS` does so with the connections of many clients: so many members, 1 to
 /// 16, serve them side by side over one archive, at the site of that base, until the gate is closed; then it prints how many captures there
-/// are. Where the system has threads for some of them alone it prints for how many first, and where it has none for any it says so and serves nobody; the disk isn't called before that. `import NS` opens the archive, reads the gate's first connection to its end, and stores
+/// are. `import NS` opens the archive, reads the gate's first connection to its end, and stores
 /// the captures of the WARC file that it gave. `check` opens the archive and prints how much it holds. `trial COUNT NUMBER`
 /// stores so many exchanges of the load with that number in memory, brings them back, and prints how much that is. `verify WORKERS`
 /// checks the bytes of the archive's volumes by so many workers, 1 to 16, and prints the verdicts. All other words print the usage.
@@ -126,7 +124,7 @@ where
             disk,
         };
     };
-    match get_ready(rt, alloc, words, disk, out) {
+    match get_ready(alloc, words, disk, out) {
         Ok(disk) => {
             let named = Named { command, words };
             run_named::<R, D, G, N, C, O, K>(rt, alloc, named, disk, gate, crew, out)
@@ -198,62 +196,24 @@ where
     }
 }
 
-/// The disk that the words' command begins with, once its base was looked at, and threads were found for a server.
-fn get_ready<R, D, O>(
-    rt: &R,
+/// The disk that the words' command begins with, once its base was looked at.
+fn get_ready<D: Disk, O: Sink>(
     alloc: Global,
     words: &[&str],
     disk: D,
     out: &mut O,
 ) -> Result<D, Ran<D>>
-where
-    R: Threads + Wait + Sync,
-    D: Disk,
-    O: Sink,
     ensures ready { IfOk result (IsReady D.Disk (word.command_of (word.texts words.now)) (site_among (word.texts words.now)) disk) }
     ensures unready { IfErr result (λ ran.
         IsUnready D.Disk O.Sink (word.command_of (word.texts words.now)) (site_among (word.texts words.now)) disk ran.disk (printed_as out.old out.new ran.status)) }
-    ensures staffed { OnOk result (IsStaffed O.Sink (runs.threads_of (word.command_of (word.texts words.now))) out.old out.new) }
+    ensures prints_nothing { OnOk result (out.new ≡ out.old) }
 {
     let Some(command) = command_of(words) else {
         return Ok(disk);
     };
     match look_at_base(alloc, words, out) {
-        Ok(()) => {}
-        Err(status) => return Err(Ran { status, disk }),
-    }
-    match look_for_threads(rt, alloc, words, out) {
         Ok(()) => begin(alloc, command, disk, out),
         Err(status) => Err(Ran { status, disk }),
-    }
-}
-
-/// Looks for how many workers of the server that the words ask for there is a thread, if they ask for one, before anything is touched. May wait.
-fn look_for_threads<R, O>(rt: &R, alloc: Global, words: &[&str], out: &mut O) -> Result<(), Status>
-where
-    R: Threads + Wait + Sync,
-    O: Sink,
-    ensures has { OnOk result (IsStaffed O.Sink (runs.threads_of (word.command_of (word.texts words.now))) out.old out.new) }
-    ensures lacks { IfErr result (IsUnstaffed O.Sink (runs.threads_of (word.command_of (word.texts words.now))) out.old out.new) }
-{
-    match threads_of(command_of(words)) {
-        Some(workers) => find_threads(rt, alloc, workers, out),
-        None => Ok(()),
-    }
-}
-
-/// For how many workers threads are looked for: for those of a server.
-fn threads_of(command: Option<Command>) -> Option<u32>
-    ensures { result ≡ runs.threads_of command }
-{
-    match command? {
-        Command::Check => None,
-        Command::Follow(_) => None,
-        Command::Import(_) => None,
-        Command::Pipe(_) => None,
-        Command::Serve(_, workers) => Some(workers),
-        Command::Trial(_, _) => None,
-        Command::Verify(_) => None,
     }
 }
 

@@ -37,7 +37,7 @@ returns-in-Ok g c =
     runs_ready (kinds_of g.D.Disk g.G.Gate g.N.Dialer g.C.Clock g.O.Sink g.G.Link.Link.tells g.N.Link.Link.tells) g.K.Known.book _ (site_among (texts c.args.words.now))
     (objects_of c.args.disk c.args.gate.now c.args.crew.now.members.items c.args.out.now) _ (sym c.command_of.ensures.value ∙ c.in-Some.is) c.in-Ok.disk
     (objects_of c.run_named.result.disk c.run_named.new.gate c.run_named.new.crew.members.items c.run_named.new.out) c.run_named.result.status
-    c.get_ready.new.out c.in-Ok.ensures.staffed c.in-Ok.ensures.ready c.run_named.ensures
+    c.get_ready.new.out c.in-Ok.ensures.prints_nothing c.in-Ok.ensures.ready c.run_named.ensures
 
 pub returns-in-Err : goal.returns-in-Err
 returns-in-Err g c =

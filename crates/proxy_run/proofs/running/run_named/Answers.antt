@@ -2,15 +2,13 @@
 use Rattle.std.proofs.Common.{◌≡◌, ℕ, ◌<◌, ◌≤◌, List, length, refl, subst, arith}
 use Rattle.std.specs.Prelude.{IfSome, drop, set}
 use Rattle.archive_opening.specs.Telling.{MayBeSettled}
-use Rattle.command.specs.Base.{site_among}
 use Rattle.command.specs.Objects.{kinds_of, objects_of}
-use Rattle.command.specs.Words.{asked_of, texts, workers_of}
+use Rattle.command.specs.Words.{asked_of, workers_of}
 use Rattle.warc_text.specs.Ids.{IsUuid}
 use Rattle.command.specs.declared.words.Command.{Command}
 use Rattle.command.specs.declared.words.Command.TheVariants.{Serve}
 use Rattle.crew.proofs.CrewLaws.{first_is, first_set}
-use Rattle.proxy_run.proofs.RunLaws.{follow_siteless, runs_check, runs_follow, runs_import, runs_pipe, runs_trial, runs_verify}
-use Rattle.proxy_run.proofs.StaffLaws.{runs_served, serve_siteless}
+use Rattle.proxy_run.proofs.RunLaws.{follow_siteless, runs_check, runs_follow, runs_import, runs_pipe, runs_serve, runs_trial, runs_verify, serve_siteless}
 use Rattle.proxy_run.proofs.running.run_named.Goals as goal
 
 pub returns-in-Check : goal.returns-in-Check
@@ -87,16 +85,6 @@ pub serve_many-requires-clause-known : goal.serve_many-requires-clause-known
 serve_many-requires-clause-known g c = λ κs outlives.
     subst (λ command. MayBeSettled g.D.Disk c.args.disk (asked_of command) g.K.Known.book) c.in-Serve.is c.requires.known
 
-pub returns-in-Ok-named_site : goal.returns-in-Ok-named_site
-returns-in-Ok-named_site g c =
-    let kinds = kinds_of g.D.Disk g.G.Gate g.N.Dialer g.C.Clock g.O.Sink g.G.Link.Link.tells g.N.Link.Link.tells in
-    let base = c.in-Ok-named_site.site in
-    let was = objects_of c.args.disk c.args.gate.now c.args.crew.now.members.items in
-    let is = objects_of c.serve_many.result.disk c.serve_many.new.gate c.serve_many.new.crew.items c.serve_many.new.out in
-    runs_served kinds g.K.Known.book c.args.named.command c.in-Serve.field-0 base c.in-Serve.workers (site_among (texts c.args.named.words.now))
-    (was c.args.out.now) is c.serve_many.result.status c.in-Serve.is c.in-Ok-named_site.ensures.site
-    (rw c.in-Ok-named_site.ensures.prints_nothing at c.serve_many.ensures)
-
 pub follow-requires-clause-uuid : goal.follow-requires-clause-uuid
 follow-requires-clause-uuid g c = c.requires.uuid
 
@@ -119,6 +107,13 @@ returns-in-Err g c =
     follow_siteless (kinds_of g.D.Disk g.G.Gate g.N.Dialer g.C.Clock g.O.Sink g.G.Link.Link.tells g.N.Link.Link.tells) g.K.Known.book _ c.args.named.command c.in-Follow.field-0
     (objects_of c.args.disk c.args.gate.now c.args.crew.now.members.items c.args.out.now) c.named_site.new.out c.in-Err.status
     c.in-Follow.is c.in-Err.ensures.none
+
+pub returns-in-Ok-named_site : goal.returns-in-Ok-named_site
+returns-in-Ok-named_site g c =
+    runs_serve (kinds_of g.D.Disk g.G.Gate g.N.Dialer g.C.Clock g.O.Sink g.G.Link.Link.tells g.N.Link.Link.tells) g.K.Known.book _ c.args.named.command c.in-Serve.field-0
+    c.in-Ok-named_site.site c.in-Serve.workers (objects_of c.args.disk c.args.gate.now c.args.crew.now.members.items c.args.out.now)
+    (objects_of c.serve_many.result.disk c.serve_many.new.gate c.serve_many.new.crew.items c.serve_many.new.out) c.serve_many.result.status
+    c.in-Serve.is c.in-Ok-named_site.ensures.site (rw c.in-Ok-named_site.ensures.prints_nothing at c.serve_many.ensures)
 
 pub returns-in-Err-named_site : goal.returns-in-Err-named_site
 returns-in-Err-named_site g c =
