@@ -3,6 +3,7 @@
 
 mod command_line;
 mod objects;
+mod staffing;
 mod status;
 
 use command::Status;
@@ -10,6 +11,7 @@ use command_line::{out_of, texts_of, words_of};
 use objects::objects_for;
 use proxy_run::{Crew, run};
 use real_outside::{Made, hold_standard_descriptors};
+use staffing::try_threads;
 use status::{ended, exit_code};
 use std::process::ExitCode;
 
@@ -33,6 +35,7 @@ fn main(rt: HostRuntime) -> ExitCode {
         members,
         out,
     } = made;
+    try_threads(&rt, rt.alloc(), texts.as_slice(), &mut gate);
     let mut out = out_of(rt, texts.as_slice(), out);
     let mut crew = Crew { members };
     ended(run(

@@ -1,6 +1,6 @@
 //! The way in: the standard streams, or a TCP listener.
 ghost use Rattle.std.specs.Prelude.{◌≡◌, IsTrue};
-ghost use Rattle.real_outside.specs.Gates.{gate_faults, is_closed, nothing_heard};
+ghost use Rattle.real_outside.specs.Gates.{gate_faults, is_closed, is_once, nothing_heard};
 ghost use Rattle.outside.specs.Gate.{no_connections};
 
 use crate::link::RealLink;
@@ -42,6 +42,18 @@ impl<R: StandardStreams + Network> RealGate<R> {
         match self {
             RealGate::Once { .. } => false,
             RealGate::Tcp { gate, .. } => gate.was_refused(),
+        }
+    }
+
+    /// Says that there are threads for so few of the workers that are to serve its connections. Where there is none it gives
+    /// no connection by TCP from now on: each accept fails.
+    pub fn lack_threads(&mut self, there: u32, workers: u32)
+        ensures kind { is_once self.new ≡ is_once self.old }
+        ensures same_faults { gate_faults self.new ≡ gate_faults self.old }
+    {
+        match self {
+            RealGate::Once { .. } => {}
+            RealGate::Tcp { gate, .. } => gate.lack_threads(there, workers),
         }
     }
 }

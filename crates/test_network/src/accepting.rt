@@ -63,6 +63,20 @@ fn gives(alloc: Global, at: Site, binds: bool, plan: Plan) -> Written {
     accepted(&mut gate)
 }
 
+/// The same of a gate that listens where so many of four workers have a thread. The causes are told.
+fn gives_staffed(alloc: Global, there: u32) -> Written {
+    let plan = Plan {
+        tells: true,
+        ..QUIET
+    };
+    let Ok(mut gate) = gate_at(alloc, Some(("a.test", 80)), plan) else {
+        return Written::new();
+    };
+    gate.bind();
+    gate.lack_threads(there, 4);
+    accepted(&mut gate)
+}
+
 /// What two dials ask of a network, and what came of them, where the program listens at its own address or doesn't.
 fn dials(alloc: Global, own: Option<u8>, plan: Plan) -> Written {
     let own = match own {
@@ -195,10 +209,30 @@ fn check_addresses<R: Abort>(rt: &R, alloc: Global, rows: &[(Site, Plan, &str)])
     }
 }
 
+/// How many of four workers have a thread, and what is asked and given then.
+static STAFFS: [(u32, &str); 2] = [
+    (
+        0,
+        "listen a.test 80;a.test:80: listen: no thread for a worker;a.test:80: listen: no thread for a worker; failed failed true",
+    ),
+    (
+        3,
+        "listen a.test 80;3 of 4 workers: start: no thread for the others;ready 10.0.0.9:80;accept;accept; connection connection false",
+    ),
+];
+
+/// Asserts what is asked and given by each staff.
+fn check_staffs<R: Abort>(rt: &R, alloc: Global, rows: &[(u32, &str)]) {
+    for (there, want) in rows {
+        check(rt, gives_staffed(alloc, *there), want);
+    }
+}
+
 #[test]
 fn listens_and_accepts(rt: HostRuntime) {
     check_accepts(&rt, rt.alloc(), &FAILED_ACCEPTS);
     check_addresses(&rt, rt.alloc(), &ADDRESSES);
+    check_staffs(&rt, rt.alloc(), &STAFFS);
 }
 
 /// The last number of the program's own address, what is at each address of a host, and what is asked and comes.

@@ -4,9 +4,10 @@ use crate::limits::Limits;
 use crate::listening::{Address, LISTEN};
 use crate::places::Places;
 use crate::tcp::link::TcpLink;
-use std::io;
+use std::fmt::{Display, Formatter};
 use std::io::ErrorKind;
 use std::net::SocketAddr;
+use std::{fmt, io};
 use system_network::Network;
 
 /// Listens at an address, from when it is bound or else from the first accept on. Without one it gives no connection.
@@ -21,6 +22,8 @@ pub struct TcpGate<N: Network> {
     announced: bool,
     /// Whether it was to listen and couldn't.
     refused: bool,
+    /// Whether nobody would serve its connections.
+    unserved: bool,
     places: Places,
     limits: Limits,
 }
@@ -35,6 +38,7 @@ impl<N: Network> TcpGate<N> {
             own: None,
             announced: false,
             refused: false,
+            unserved: false,
             places,
             limits,
         }
@@ -50,7 +54,7 @@ impl<N: Network> TcpGate<N> {
         &self.places
     }
 
-    /// The next connection, when there is a place for it. It fails where the address can't be bound, and where the
+    /// The next connection, when there is a place for it. It fails where the address can't be bound, where nobody would serve it, and where the
     /// listener or memory fails. Before the first one it says where connections are accepted.
     pub fn accept(&mut self) -> io::Result<TcpLink<N::Socket>> {
         let listener = match self.listener.take() {
@@ -75,6 +79,19 @@ impl<N: Network> TcpGate<N> {
         }
     }
 
+    /// Says that there are threads for so few of the workers that are to serve its connections. Where there is none it
+    /// doesn't listen from now on: the next accept fails, and tells the cause.
+    pub fn lack_threads(&mut self, there: u32, workers: u32) {
+        if there == 0 {
+            self.listener = None;
+            self.refused = true;
+            self.unserved = true;
+            return;
+        }
+        let error = io::Error::new(ErrorKind::ResourceBusy, "no thread for the others");
+        self.network.tell(Staff { there, workers }, "start", &error);
+    }
+
     /// Where it listens.
     pub fn own_address(&self) -> Option<SocketAddr> {
         self.own
@@ -96,6 +113,9 @@ impl<N: Network> TcpGate<N> {
 
     /// A listener at the gate's address.
     fn listen(&mut self) -> io::Result<N::Listener> {
+        if self.unserved {
+            return Err(io::Error::new(ErrorKind::ResourceBusy, "no thread for a worker"));
+        }
         let listener = match &self.address {
             Some(address) => self.network.listen(address.host(), address.port())?,
             None => {
@@ -126,6 +146,20 @@ impl<N: Network> TcpGate<N> {
             Some(address) => self.network.tell(address, call, error),
             None => self.network.tell(LISTEN, call, error),
         }
+    }
+}
+
+/// How many of so many workers have a thread.
+#[derive(Clone, Copy)]
+struct Staff {
+    there: u32,
+    workers: u32,
+}
+
+impl Display for Staff {
+    fn fmt<W: fmt::Write>(&self, f: &mut Formatter<W>) -> fmt::Result {
+        let (there, workers) = (self.there, self.workers);
+        write!(f, "{there} of {workers} workers")
     }
 }
 
