@@ -1,5 +1,5 @@
 -- The file is kept, or it is left.
-use Rattle.std.proofs.Common.{◌≡◌, sym, subst}
+use Rattle.std.proofs.Common.{sym, subst}
 use Rattle.folder_model.specs.Folder.{FolderPast}
 use Rattle.folder_files.specs.OpenFiles.{AreOpen}
 use Rattle.folder_files.specs.steps.OpenLaws.{all_same, one_same, same_contents, kept_after, left_after}
