@@ -19,11 +19,11 @@ use Rattle.html_rewrite.proofs.Fronts.{front_none}
 use Rattle.html_rewrite.proofs.Kept.{Becomes, IsPath, chosen, nothing, own, parsed, shortened}
 
 -- of each such path the result is the same, but for a front of the path
-pub data Way (n : ℕ) (result : List ℕ → Parsed Parts) : Type 0 where
+data Way (n : ℕ) (result : List ℕ → Parsed Parts) : Type 0 where
   refuses : (e : ParseError) (is : (p : List ℕ) → IsPath n p → result p ≡ Err e) → Way n result
   gives : (url : Parts) (kept : ℕ) (tail : List ℕ) (within : kept ≤ n) (headed : (kept ≡ 0) ⊎ (has_authority url ≡ true)) (is : (p : List ℕ) → IsPath n p → result p ≡ Ok (with_path url (front_with kept p ++ tail))) → Way n result
 
-pub same_way : (n : ℕ) (f g : List ℕ → Parsed Parts) → ((p : List ℕ) → g p ≡ f p) → Way n f → Way n g
+same_way : (n : ℕ) (f g : List ℕ → Parsed Parts) → ((p : List ℕ) → g p ≡ f p) → Way n f → Way n g
 same_way n f g same (refuses e is) = refuses e (λ p h. same p ∙ is p h)
 same_way n f g same (gives url kept tail within headed is) = gives url kept tail within headed (λ p h. same p ∙ is p h)
 

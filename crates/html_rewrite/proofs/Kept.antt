@@ -25,7 +25,7 @@ pub record Becomes (n : ℕ) (path : List ℕ → List ℕ) : Type 0 where
   pub is_tail : IsTail tail
   pub is : (p : List ℕ) → IsPath n p → path p ≡ front_with kept p ++ tail
 
-pub same_path : (n : ℕ) (f g : List ℕ → List ℕ) → ((p : List ℕ) → g p ≡ f p) → Becomes n f → Becomes n g
+same_path : (n : ℕ) (f g : List ℕ → List ℕ) → ((p : List ℕ) → g p ≡ f p) → Becomes n f → Becomes n g
 same_path n f g same b = record {
   kept = b.kept;
   tail = b.tail;
@@ -56,7 +56,7 @@ nothing n = record {
   is = λ p h. sym (ap (λ t. t ++ []) (front_none p h.first));
 }
 
-pub appended : (n : ℕ) (f : List ℕ → List ℕ) (more : List ℕ) → IsTail more → Becomes n f → Becomes n (λ p. f p ++ more)
+appended : (n : ℕ) (f : List ℕ → List ℕ) (more : List ℕ) → IsTail more → Becomes n f → Becomes n (λ p. f p ++ more)
 appended n f more h b = record {
   kept = b.kept;
   tail = b.tail ++ more;
@@ -118,7 +118,7 @@ module _ (n : ℕ) (kind : SchemeType) (not_file : is_file kind ≡ false) where
       (λ p. ap (λ t. f p ++ slash ∷ t) (cond-false _ _ _ (and_left _ _ (and_left _ _ not_file))))
       (appended n f (slash ∷ percent_encode PATH segment) (inr (percent_encode PATH segment, refl)) b)
 
-  pub pushed : (f : List ℕ → List ℕ) (segment : List ℕ) (is_last : Bool) → Becomes n f → Becomes n (λ p. push_segment kind (f p) segment is_last)
+  pushed : (f : List ℕ → List ℕ) (segment : List ℕ) (is_last : Bool) → Becomes n f → Becomes n (λ p. push_segment kind (f p) segment is_last)
   unfolding push_segment
   pushed f segment is_last b =
       let up = appended n (λ p. shorten_path kind (f p)) (when is_last (slash ∷ [])) (slash_if is_last) (shortened f b) in

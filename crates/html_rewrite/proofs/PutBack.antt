@@ -3,7 +3,7 @@ use Rattle.std.proofs.Common.{◌≡◌, ℕ, zero, suc, ◌+◌, ◌-◌, ◌<�
 use Rattle.std.specs.Prelude.{Option, is_some, unwrap_or, option_map, codes, decimal}
 use Rattle.std.specs.List.{concat, repeat}
 use Rattle.std.proofs.lemmas.Bool.{and_left}
-use Rattle.std.proofs.lemmas.Option.{same_Some}
+use Rattle.std.proofs.lemmas.Option.{none-some, same_Some}
 use Rattle.url.specs.declared.slicing.Position.TheVariants.{BeforePath}
 use Rattle.url.specs.Host.{host_text}
 use Rattle.url.specs.Input.{is_empty, when}
@@ -110,63 +110,68 @@ pub record Spliced (path : List ℕ) (bare : Parts) (longer : ℕ) (address : Op
   pub is : Some (put_back path bare (longer - length (serialize bare))) ≡ address
 
 module _ (base : Parts) (outline : Outline) (is_outline : IsOutline base outline) (reference : List ℕ) where
+  -- the paths of the outline
+  abbrev bare_segments : List ℕ
+  bare_segments = repeat (slashes base.path) (codes "/")
+
+  abbrev lettered_segments : List ℕ
+  lettered_segments = repeat (slashes base.path) (codes "/a")
+
   own_path : IsPath (slashes base.path) base.path
   own_path = record { first = is_outline.rooted.first; count = refl }
 
-  short_path : IsPath (slashes base.path) (repeat (slashes base.path) (codes "/"))
-  short_path = bare_path (slashes base.path) (some_slash base.path is_outline.rooted.first)
+  bare_is_path : IsPath (slashes base.path) bare_segments
+  bare_is_path = bare_path (slashes base.path) (some_slash base.path is_outline.rooted.first)
 
-  long_path : IsPath (slashes base.path) (repeat (slashes base.path) (codes "/a"))
-  long_path = lettered_path (slashes base.path) (some_slash base.path is_outline.rooted.first)
+  lettered_is_path : IsPath (slashes base.path) lettered_segments
+  lettered_is_path = lettered_path (slashes base.path) (some_slash base.path is_outline.rooted.first)
 
-  -- where a reference leads to from the address with this path
+  -- where the reference leads to from the address with this path
   abbrev from : List ℕ → Option Parts
   from p = target_from (Some (with_path base p)) reference
 
-  from_bare : target_from (Some outline.bare) reference ≡ from (repeat (slashes base.path) (codes "/"))
+  from_bare : target_from (Some outline.bare) reference ≡ from bare_segments
   from_bare = ap (λ (u : Parts). target_from (Some u) reference) is_outline.bare
 
-  from_lettered : target_from (Some outline.lettered) reference ≡ from (repeat (slashes base.path) (codes "/a"))
+  from_lettered : target_from (Some outline.lettered) reference ≡ from lettered_segments
   from_lettered = ap (λ (u : Parts). target_from (Some u) reference) is_outline.lettered
 
   none_by : Target (slashes base.path) from → target_from (Some outline.bare) reference ≡ None → None ≡ option_map serialize (from base.path)
   none_by (nowhere is) none = ap (option_map serialize) (sym (is base.path own_path))
-  none_by (somewhere url kept tail within headed is) none = absurd (apart _ (sym none ∙ from_bare ∙ is _ short_path))
-    where
-      apart : (u : Parts) → None ≡ Some u → ⊥
-      apart u e = cc
+  none_by (somewhere url kept tail within headed is) none = absurd (none-some _ (sym none ∙ from_bare ∙ is _ bare_is_path))
+
+  -- the URL with what is kept of this path
+  abbrev keeping : Parts → ℕ → List ℕ → List ℕ → Parts
+  keeping url kept tail p = with_path url (front_with kept p ++ tail)
 
   spliced_at : (url : Parts) (kept : ℕ) (tail : List ℕ) → kept ≤ slashes base.path → (kept ≡ 0) ⊎ (has_authority url ≡ true)
-      → PutsBack base.path (with_path url (front_with kept (repeat (slashes base.path) (codes "/")) ++ tail)) (length (serialize (with_path url (front_with kept (repeat (slashes base.path) (codes "/a")) ++ tail)))) (serialize (with_path url (front_with kept base.path ++ tail)))
+      → PutsBack base.path (keeping url kept tail bare_segments) (length (serialize (keeping url kept tail lettered_segments))) (serialize (keeping url kept tail base.path))
   spliced_at url kept tail within (inl none) =
-      let url_with = λ (t : List ℕ). with_path url (t ++ tail) in
-      let bare = ap (λ k. front_with k (repeat (slashes base.path) (codes "/"))) none ∙ front_none (repeat (slashes base.path) (codes "/")) short_path.first in
-      let lettered = ap (λ k. front_with k (repeat (slashes base.path) (codes "/a"))) none ∙ front_none (repeat (slashes base.path) (codes "/a")) long_path.first in
-      let front = ap (λ k. front_with k base.path) none ∙ front_none base.path is_outline.rooted.first in
-      subst (λ t. PutsBack base.path (url_with t) (length (serialize (url_with (front_with kept (repeat (slashes base.path) (codes "/a")))))) (serialize (url_with (front_with kept base.path)))) (sym bare)
-      (subst (λ t. PutsBack base.path (url_with []) (length (serialize (url_with t))) (serialize (url_with (front_with kept base.path)))) (sym lettered)
-      (subst (λ t. PutsBack base.path (url_with []) (length (serialize (url_with []))) (serialize (url_with t))) (sym front)
-      (puts_nothing base.path (url_with []) is_outline.rooted.first)))
+      let with_front = λ (t : List ℕ). with_path url (t ++ tail) in
+      let nothing = λ (p : List ℕ) (is : IsPath (slashes base.path) p). ap (λ k. front_with k p) none ∙ front_none p is.first in
+      subst (λ t. PutsBack base.path (with_front t) (length (serialize (keeping url kept tail lettered_segments))) (serialize (keeping url kept tail base.path))) (sym (nothing bare_segments bare_is_path))
+      (subst (λ t. PutsBack base.path (with_front []) (length (serialize (with_front t))) (serialize (keeping url kept tail base.path))) (sym (nothing lettered_segments lettered_is_path))
+      (subst (λ t. PutsBack base.path (with_front []) (length (serialize (with_front []))) (serialize (with_front t))) (sym (nothing base.path own_path))
+      (puts_nothing base.path (with_front []) is_outline.rooted.first)))
   spliced_at url kept tail within (inr authority) =
-      puts_back base.path url kept (front_with kept (repeat (slashes base.path) (codes "/"))) (front_with kept (repeat (slashes base.path) (codes "/a"))) tail (length_bare kept (slashes base.path) within) (length_lettered kept (slashes base.path) within) authority
+      puts_back base.path url kept (front_with kept bare_segments) (front_with kept lettered_segments) tail (length_bare kept (slashes base.path) within) (length_lettered kept (slashes base.path) within) authority
 
-  spliced_by : Target (slashes base.path) from → (bare : Parts) → target_from (Some outline.bare) reference ≡ Some bare → Spliced base.path bare (len_of (target_from (Some outline.lettered) reference)) (option_map serialize (from base.path))
-  spliced_by (nowhere is) bare some = absurd (apart bare (sym (is _ short_path) ∙ sym from_bare ∙ some))
-    where
-      apart : (u : Parts) → None ≡ Some u → ⊥
-      apart u e = cc
+  spliced_by : Target (slashes base.path) from → (bare : Parts) → target_from (Some outline.bare) reference ≡ Some bare
+      → Spliced base.path bare (len_of (target_from (Some outline.lettered) reference)) (option_map serialize (from base.path))
+  spliced_by (nowhere is) bare some = absurd (none-some bare (sym (is _ bare_is_path) ∙ sym from_bare ∙ some))
   spliced_by (somewhere url kept tail within headed is) bare some =
-      let short = with_path url (front_with kept (repeat (slashes base.path) (codes "/")) ++ tail) in
-      let same : bare ≡ short = same_Some bare short (sym some ∙ from_bare ∙ is _ short_path) in
-      let longer = ap len_of (from_lettered ∙ is _ long_path) in
+      let short = keeping url kept tail bare_segments in
+      let same : bare ≡ short = same_Some bare short (sym some ∙ from_bare ∙ is _ bare_is_path) in
+      let longer = ap len_of (from_lettered ∙ is _ lettered_is_path) in
       let made = spliced_at url kept tail within headed in
       subst (λ (u : Parts). Spliced base.path u (len_of (target_from (Some outline.lettered) reference)) (option_map serialize (from base.path))) (sym same)
       (subst (λ n. Spliced base.path short n (option_map serialize (from base.path))) (sym longer)
-      (subst (λ o. Spliced base.path short (length (serialize (with_path url (front_with kept (repeat (slashes base.path) (codes "/a")) ++ tail)))) (option_map serialize o)) (sym (is base.path own_path))
+      (subst (λ o. Spliced base.path short (length (serialize (keeping url kept tail lettered_segments))) (option_map serialize o)) (sym (is base.path own_path))
       (record { more = made.more; fits = made.fits; is = ap Some made.is })))
 
   pub none_there : target_from (Some outline.bare) reference ≡ None → None ≡ option_map serialize (target_from (Some base) reference)
   none_there none = none_by (target_way (slashes base.path) base reference is_outline.rooted) none
 
-  pub spliced : (bare : Parts) → target_from (Some outline.bare) reference ≡ Some bare → Spliced base.path bare (len_of (target_from (Some outline.lettered) reference)) (option_map serialize (target_from (Some base) reference))
+  pub spliced : (bare : Parts) → target_from (Some outline.bare) reference ≡ Some bare
+      → Spliced base.path bare (len_of (target_from (Some outline.lettered) reference)) (option_map serialize (target_from (Some base) reference))
   spliced bare some = spliced_by (target_way (slashes base.path) base reference is_outline.rooted) bare some
