@@ -34,7 +34,7 @@ use Rattle.archive_core.proofs.TextLaws.{texts_go_on, texts_stay}
 
 -- ---- texts and files
 
-begin_on : (was now : List (List ℕ)) → GoOn was now → BeginWith was now
+pub begin_on : (was now : List (List ℕ)) → GoOn was now → BeginWith was now
 begin_on was now on = record { enough = on.count; each = λ k less. record { rest = on.rest k; joined = on.each k less } }
 
 pub begin_itself : (all : List (List ℕ)) → BeginWith all all
@@ -84,7 +84,7 @@ module _ {D : Type 0} (d : Ghosts D) (laws : DiskLaws d) (stood : Stood) where
     with_after : BeginWith (texts d old) after
     with_after = begin_both (texts d old) room after roomy more
 
-    keeps_writes : {T E : Type 0} (result : Result T E) → KeepsStood d stood old → WritesTexts d old new (texts_as room after) result → KeepsStood d stood new
+    pub keeps_writes : {T E : Type 0} (result : Result T E) → KeepsStood d stood old → WritesTexts d old new (texts_as room after) result → KeepsStood d stood new
     keeps_writes {T} {E} result keeps wrote = record {
       lasts = lasts_by (disk_of old) (disk_of new) (IsLeft (d.images (disk_of old)) (HoldOneOf (texts d old) room after)) keeps.lasts wrote.leaves
           (λ image left. ⊎_elim
