@@ -5,7 +5,7 @@ use capture::Memory;
 use case_outcomes::Program;
 use case_setting::{Script, Setting};
 use case_steps::{Outcome, after, disk_of, kept};
-use command::Ran;
+use command::{Ran, Unknown};
 use disk_model::MemoryDisk;
 use proxy_run::{CREW, run};
 use std::alloc::Global;
@@ -101,7 +101,7 @@ impl<'a, R: Threads + Wait + Sync> Runs<'a, R> {
             return Ok(None);
         }
         let words = setting.words.as_slice();
-        let Ran { status, disk } = run(
+        let Ran { status, disk } = run::<_, _, _, _, _, _, Unknown>(
             self.rt,
             self.alloc,
             words,

@@ -6,7 +6,7 @@ mod objects;
 mod staffing;
 mod status;
 
-use command::Status;
+use command::{Status, Unknown};
 use command_line::{out_of, texts_of, words_of};
 use objects::objects_for;
 use proxy_run::{Crew, run};
@@ -38,7 +38,7 @@ fn main(rt: HostRuntime) -> ExitCode {
     try_threads(&rt, rt.alloc(), texts.as_slice(), &mut gate);
     let mut out = out_of(rt, texts.as_slice(), out);
     let mut crew = Crew { members };
-    ended(run(
+    ended(run::<_, _, _, _, _, _, Unknown>(
         &rt,
         rt.alloc(),
         texts.as_slice(),

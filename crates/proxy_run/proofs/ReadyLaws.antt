@@ -2,13 +2,19 @@
 use Rattle.std.proofs.Common.{◌≡◌, List, Option, Some, None, refl, sym, ap, subst, ◌∙◌, inl, inr}
 use Rattle.capture.specs.declared.book.Book.{Book}
 use Rattle.capture.specs.declared.site.Site.{Site}
+use Rattle.command.specs.Beginning.{MayBegin}
 use Rattle.command.specs.Objects.{Kinds, Objects}
 use Rattle.command.specs.Printing.{Prints, printed_as}
 use Rattle.command.specs.Texts.{usage}
 use Rattle.command.specs.declared.status.Status.{Status}
 use Rattle.command.specs.declared.status.Status.TheVariants.{Words}
 use Rattle.command.specs.declared.words.Command.{Command}
-use Rattle.proxy_run.specs.Runs.{IsReady, IsUnready, Runs, RunsFrom}
+use Rattle.disk_model.specs.declared.disk.Disk.{Ghosts as Disks}
+use Rattle.proxy_run.specs.Runs.{IsReady, IsUnready, MayRun, Runs, RunsFrom}
+
+pub may_begin : {D : Type 0} (disks : Disks D) (disk : D) (known : Option Book) (command : Command) → MayRun disks disk known (Some command) → MayBegin disks disk known command
+may_begin disks disk None command may = tt
+may_begin disks disk (Some book) command may = may
 
 module _ {D G L P N M C O : Type 0} (kinds : Kinds D G L P N M C O) (known : Option Book) (found : Option Command) (site : Option Site)
     (was : Objects D G (List (N × C)) O) where

@@ -1,5 +1,5 @@
 -- What a run leaves, by what its words ask for.
-use Rattle.std.specs.Prelude.{◌≡◌, ◌⊎◌, ℕ, Bool, true, false, IsTrue, List, is_some, Option, Some, None, ⊤}
+use Rattle.std.specs.Prelude.{◌≡◌, ◌⊎◌, ℕ, Bool, true, false, IfSome, IsTrue, List, is_some, Option, Some, None, ⊤}
 use Rattle.archive_shelf.specs.declared.depth.Depth.TheVariants.{Whole}
 use Rattle.capture.specs.declared.book.Book.{Book}
 use Rattle.capture.specs.declared.site.Site.{Site}
@@ -9,7 +9,7 @@ use Rattle.proxy_run.specs.Checks.{IsCounted}
 use Rattle.following.specs.Follows.{Follows}
 use Rattle.importing.specs.Imports.{Imports}
 use Rattle.archive_reopening.specs.Known.{by_checkpoints}
-use Rattle.command.specs.Beginning.{BeginsWith, IsNotBegun, stores}
+use Rattle.command.specs.Beginning.{BeginsWith, IsNotBegun, MayBegin, stores}
 use Rattle.command.specs.Objects.{Kinds, Objects, UsesFirst, objects_of, with_one}
 use Rattle.proxy_run.specs.Pipes.{Pipes, Refuses}
 use Rattle.command.specs.Printing.{LacksMemory, Printed, Prints, printed_as}
@@ -21,6 +21,11 @@ use Rattle.command.specs.declared.status.Status.{Status}
 use Rattle.command.specs.declared.status.Status.TheVariants as status
 use Rattle.command.specs.declared.words.Command.{Command}
 use Rattle.command.specs.declared.words.Command.TheVariants.{Check, Follow, Import, Pipe, Serve, Trial, Verify}
+
+-- what is asked of a disk whose book is known: that it begins as the command asks; of others nothing
+abbrev pub MayRun : {D : Type 0} → Disks D → D → Option Book → Option Command → Type 0
+MayRun disks disk None found = ⊤
+MayRun disks disk (Some book) found = IfSome found (MayBegin disks disk (Some book))
 
 -- The words name no site, and the usage was printed, or there was no memory to look.
 abbrev pub NamesNone : {O : Type 0} → Sinks O → Option Site → O → O → Status → Type 0

@@ -15,4 +15,4 @@ pub use laws::{
     pipes_leave_no_choice, ready_archives_are_served, servers_keep_their_promise,
     servers_leave_ready, sound_archives_verify,
 };
-pub use running::{CREW, Crew, run, run_known};
+pub use running::{CREW, Crew, run};

@@ -3,9 +3,8 @@ ghost use Rattle.std.specs.Prelude.{◌≡◌, ◌<◌, ◌≤◌, length, IfErr
 ghost use Rattle.archive_opening.specs.Telling.{MayBeSettled};
 ghost use Rattle.command.specs.Base.{site_among};
 ghost use Rattle.command.specs.Objects.{kinds_of, objects_of};
-ghost use Rattle.command.specs.Beginning.{MayBegin};
 ghost use Rattle.command.specs.Printing.{printed_as};
-ghost use Rattle.proxy_run.specs.Runs.{HasBase, IsReady, IsUnready, LacksBase, NamesNone, Runs, RunsFrom};
+ghost use Rattle.proxy_run.specs.Runs.{HasBase, IsReady, IsUnready, LacksBase, MayRun, NamesNone, Runs, RunsFrom};
 ghost use Rattle.proxy_run.specs.Runs as runs;
 ghost use Rattle.command.specs.Words as word;
 ghost use Rattle.warc_text.specs.Ids.{IsUuid};
@@ -14,7 +13,7 @@ use crate::checking::check;
 use crate::piping::pipe;
 use crate::server::{Service, serve_many};
 use capture::{Memory, Site};
-use command::{Command, Known, Ran, Status, Unknown, begin, command_of, print_as, site_of};
+use command::{Command, Known, Ran, Status, begin, command_of, print_as, site_of};
 use disk_model::Disk;
 use following::follow;
 use importing::import;
@@ -57,40 +56,11 @@ struct Named<'a> {
 /// `pipe` and `serve` write the checkpoints that are missing, before they serve and behind that. These two, `import`, `follow` and `verify` open the
 /// archive by its checkpoints, `check` by all that its volumes hold. Before one is opened to store, the checkpoints of volumes that aren't sealed are taken away.
 ///
-/// Nothing is required of the disk. What is claimed of an archive is claimed of the book for which the disk stands, and each disk that
-/// is handed back stands for one. Of an archive that was opened by checkpoints it is claimed of a book that is known, and nobody knows it here: see `run_known`.
-pub fn run<R, D, G, N, C, O>(
-    rt: &R,
-    alloc: Global,
-    words: &[&str],
-    disk: D,
-    gate: &mut G,
-    crew: &mut Crew<N, C>,
-    out: &mut O,
-) -> Ran<D>
-where
-    R: Threads + Wait + Sync,
-    D: Disk + Send,
-    G: Gate + Send,
-    G::Link: Send,
-    G::Past: Send,
-    N: Dialer + Send,
-    N::Link: Send,
-    C: Clock + Send,
-    O: Sink,
-    requires { length crew.old.members.items ≡ CREW }
-
-    ensures { let kinds = kinds_of D.Disk G.Gate N.Dialer C.Clock O.Sink G.Link.tells N.Link.tells in
-        let was = objects_of disk gate.old crew.old.members.items out.old in
-        let is = objects_of result.disk gate.new crew.new.members.items out.new in
-        RunsFrom kinds None (word.command_of (word.texts words.now)) (site_among (word.texts words.now)) was is result.status }
-{
-    run_known::<R, D, G, N, C, O, Unknown>(rt, alloc, words, disk, gate, crew, out)
-}
-
-/// The same as `run`, for a caller whose proof may know the book on the disk, which `K` names: one that kept the disk. For a command that stores, what
-/// stands beside the last volume isn't asked for: its checkpoint may be that of a volume which wasn't the last one once.
-pub fn run_known<R, D, G, N, C, O, K>(
+/// What is claimed of an archive is claimed of the book for which the disk stands, and each disk that is handed back stands for one. Of an archive
+/// that was opened by checkpoints it is claimed of the book that `K` names, if it names one: of a caller who kept the disk and knows what is on
+/// it. The program knows none (`Unknown`), of which nothing is required, and its code is the same for each `K`. For a command that stores, what stands
+/// beside the last volume isn't asked for: its checkpoint may be that of a volume which wasn't the last one once.
+pub fn run<R, D, G, N, C, O, K>(
     rt: &R,
     alloc: Global,
     words: &[&str],
@@ -111,7 +81,7 @@ where
     O: Sink,
     K: Known,
     requires crew { length crew.old.members.items ≡ CREW }
-    requires known { IfSome (word.command_of (word.texts words.now)) (MayBegin D.Disk disk K.book) }
+    requires known { MayRun D.Disk disk K.book (word.command_of (word.texts words.now)) }
 
     ensures { let kinds = kinds_of D.Disk G.Gate N.Dialer C.Clock O.Sink G.Link.tells N.Link.tells in
         let was = objects_of disk gate.old crew.old.members.items out.old in

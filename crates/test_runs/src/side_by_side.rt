@@ -4,7 +4,7 @@ ghost use Rattle.outside.specs.Link.{no_traffic};
 ghost use Rattle.outside.specs.Gate.{heard_of, no_connections};
 ghost use Rattle.outside.specs.Records.{nothing_out};
 
-use command::Status;
+use command::{Status, Unknown};
 use disk_model::MemoryDisk;
 use outside::{Accepted, DialError, Dialer, Failed, Gate, Link, MemoryClock, MemorySink};
 use proxy_run::{CREW, Crew, run};
@@ -289,7 +289,9 @@ fn serve_two<R: Threads + Wait + Clock + Abort + Sync>(rt: &R, alloc: Global) {
         "http://localhost:8000",
         "2",
     ];
-    let ran = run(rt, alloc, &words, disk, &mut door, &mut crew, &mut out);
+    let ran = run::<_, _, _, _, _, _, Unknown>(
+        rt, alloc, &words, disk, &mut door, &mut crew, &mut out,
+    );
     assert!(rt; ran.status == Status::Done);
     assert!(rt; wrong.load(Ordering::SeqCst) == 0);
     assert!(rt; out.written() == b"captures 3\n".as_slice());
