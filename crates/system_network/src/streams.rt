@@ -1,11 +1,13 @@
 //! Reads and writes of the system's streams.
-ghost use Rattle.std.specs.Prelude.{◌≡◌, ◌==◌, ◌<◌, ◌≤◌, true, false, length, take, IfOk, OnErr};
+ghost use Rattle.std.specs.Prelude.{◌≡◌, ◌<◌, ◌≤◌, false, length, take, IfOk};
 ghost use Rattle.std.specs.Io.{ReadsAtMost};
 ghost use Rattle.std.specs.Io.KnownBytes.{ReadConsumes, Appends};
+ghost use Rattle.system_network.specs.Streams.{Reads};
 
 use crate::network::Network;
 use std::io;
 use std::io::{ErrorKind, Print, Read, Write};
+use std::marker::Model;
 
 /// How many milliseconds go by before a stream that is set not to wait is asked again.
 const PAUSE: u64 = 10;
@@ -15,15 +17,23 @@ const MOST_TRIES: u32 = 1_000;
 
 /// Input whose end stays. A terminal may give more after its end.
 #[derive(Drop)]
-pub struct EndingInput<S> {
+pub struct EndingInput<S: Read> {
     stream: S,
     ended: bool,
+}
+
+impl<S: Read> Model for EndingInput<S> {
+    ghost use Rattle.system_network.specs.Streams.{Input};
+
+    ghost Value = { Input };
+
+    ghost view = { λ input. record { ended = input.ended; left = S.Read.remaining input.stream } };
 }
 
 impl<S: Read> EndingInput<S> {
     /// The input of a stream that wasn't read yet.
     pub fn new(stream: S) -> EndingInput<S>
-        ensures { result.ended ≡ false }
+        ensures { result ≡ record { ended = false; left = S.remaining stream } }
     {
         EndingInput {
             stream,
@@ -34,9 +44,7 @@ impl<S: Read> EndingInput<S> {
     /// Reads once, and answers 0 from the end on.
     pub fn read(&mut self, into: &mut [u8]) -> io::Result<usize>
         ensures bound { ReadsAtMost result into.new }
-        ensures meets_end { IfOk result (λ n. self.new.ended ≡ (n == 0)) }
-        ensures stays_ended { self.old.ended ≡ true → result ≡ Ok 0 }
-        ensures same_end { OnErr result (self.new.ended ≡ self.old.ended) }
+        ensures reads { Reads self.old self.new result into.new }
     {
         if self.ended {
             return Ok(0);
@@ -54,6 +62,7 @@ impl<S: Read> EndingInput<S> {
         into: &mut [u8],
     ) -> io::Result<usize>
         ensures bound { ReadsAtMost result into.new }
+        ensures reads { Reads self.old self.new result into.new }
     {
         for _ in 0..u64::MAX {
             match self.read(into) {
