@@ -1,8 +1,8 @@
 -- The capture to which the group of a piece refers is found by what was read of those that are kept.
 use Rattle.std.proofs.Common.{◌≡◌, ℕ, ◌+◌, ◌<◌, ◌≤◌, ◌^◌, Bool, true, false, IsTrue, List, [], length, get_or, slice_get, Option, Some, None, Result, Ok, Err, refl, sym, ap, subst, ◌∙◌, ⊎_elim, arith}
-use Rattle.std.specs.Prelude.{IsErrAnd, IsFalse, unwrap_or}
+use Rattle.std.specs.Prelude.{IfOk, IfSome, IsErrAnd, IsFalse, unwrap_or}
 use Rattle.std.proofs.lemmas.Bool.{cases_lt, eq-eqb, eqb-true, false≢true}
-use Rattle.std.proofs.lemmas.Option.{same_Some, slice_get_within}
+use Rattle.std.proofs.lemmas.Option.{same_Some, slice_get-get_or, slice_get_within}
 use Rattle.sha1.specs.Sha1.{sha1}
 use Rattle.httparse.specs.Grammar.{ResponseHead}
 use Rattle.capture.specs.Chunks.{CutBody, InLine, IsCutBody}
@@ -27,23 +27,25 @@ use Rattle.warc_scan.specs.declared.group.Group.{Group}
 use Rattle.warc_scan.specs.declared.group.Revisited.{Revisited}
 use Rattle.warc_scan.proofs.FoundGroups.{group_found, group_is_found, kept_found, revisited_of}
 use Rattle.archive_shelf.specs.Answers.{CountsIf}
-use Rattle.archive_shelf.specs.Comparing.{KeepsWire}
+use Rattle.archive_shelf.specs.Comparing.{HasDigestOf, HasRequest, KeepsWire}
 use Rattle.archive_gathering.proofs.RevisitLaws as revisits
 use Rattle.archive_gathering.specs.Revisits.{IsOriginalOf, RefersToNone}
 use Rattle.archive_reading.proofs.BringLaws.{damaged}
-use Rattle.archive_payloads.proofs.ChooseLaws.{may_be, there_is, whole_number}
+use Rattle.archive_payloads.proofs.ChooseLaws.{its_own, may_be, there_is, whole_number}
+use Rattle.archive_payloads.specs.Choosing.{IsKeptWith}
 use Rattle.archive_reading.proofs.DecodeLaws.{one_framing}
+use Rattle.archive_reading.proofs.DigestLaws.{has_own}
 use Rattle.archive_volumes.specs.Spots.{AreHeldWhole, ArePlaced, AreSpotsOf, IsPlaced, IsSpotOf, MayBeWholeAt, form_of, is_told_form, may_be_whole, whole_from}
 use Rattle.archive_reading.specs.Decoding.{TellsFraming}
 use Rattle.archive_reading.specs.KeptGroups.{IsKeptGroup, IsSomeGroup}
-use Rattle.archive_reading.specs.Rereading.{IsToldBy}
+use Rattle.archive_reading.specs.Rereading.{IsToldBy, TellsOf}
 use Rattle.archive_reading.specs.declared.kept_group.KeptGroup.{KeptGroup}
 use Rattle.archive_reading.specs.declared.kept_group.KeptGroup.TheVariants as kept_groups
 use Rattle.archive_volumes.specs.declared.spot.Form.{Form}
 use Rattle.archive_volumes.specs.declared.spot.Form.TheVariants as forms
 use Rattle.archive_volumes.specs.declared.spot.Spot.{Spot}
 use Rattle.archive_pieces.specs.PieceFaults.{is_take_fault}
-use Rattle.archive_pieces.specs.PieceOriginals.{Agrees, AsksLength, AsksOriginal, ChoosesOriginal, IsFoundOriginal, IsLengthIn, KeepsSoLong, NoneIs, agrees_by, whole_len_by}
+use Rattle.archive_pieces.specs.PieceOriginals.{Agrees, AsksLength, AsksOriginal, ChoosesOriginal, IsFoundOriginal, IsLengthIn, KeepsSoLong, NoneIs, TellsSoLong, agrees_by, whole_len_by}
 use Rattle.archive_pieces.specs.declared.fault.PieceFault.{PieceFault}
 use Rattle.archive_pieces.specs.declared.fault.PieceFault.TheVariants as pieces
 
@@ -166,6 +168,16 @@ module _ (told : Bool) (book : Book) (number : ℕ) (texts : List (List ℕ)) (s
     where
       no_digest : (d : List ℕ) → None ≡ Some d → ⊥
       no_digest d e = cc
+
+-- whatever the disk tells, the group that was read has the digest that is kept, and so long a payload
+pub tells_long : (namespace : List ℕ) (number : ℕ) (kept : List ℕ) (read : KeptGroup) (result : Result (Option ℕ) PieceFault)
+    → IsSomeGroup namespace number read → IsLengthIn number kept read result → IfOk result (λ found. IfSome found (TellsSoLong namespace number kept))
+tells_long namespace number kept (kept_groups.Right bytes outline) (Ok (Some len)) some is =
+    record { bytes = bytes; outline = outline; is = some; digest_is = is.digest_is; long = sym is.found_is }
+tells_long namespace number kept (kept_groups.Right bytes outline) (Ok None) some is = tt
+tells_long namespace number kept (kept_groups.Right bytes outline) (Err fault) some is = tt
+tells_long namespace number kept kept_groups.Damaged (Ok _) some is = absurd is
+tells_long namespace number kept kept_groups.Damaged (Err fault) some is = tt
 
 -- ---- whether it is the one
 
@@ -316,11 +328,31 @@ module _ (book : Book) (text : List ℕ) (group : Group) (is : IsGroup book.name
       let long : len ≡ length of.payload = k.long ∙ ap (λ (l : List ℕ). length l) (captures_have_one book number k.payload of.payload mine other) in
       false≢true (agrees.is ∙ before_agrees group.stored.method group.stored.head of.payload of.head len long k.fits agrees.framing agrees.tells)
 
+  -- the group's record tells of it, whatever is told of the book
+  tells_of : IsToldBy book.namespace same number spot → IfSome group.same (TellsOf book number)
+  tells_of named =
+      let tells : TellsOf book number same = record {
+        original = its.stored;
+        placed = its.placed;
+        id_is = sym named.id;
+        uri_is = sym named.uri ∙ its.uri;
+        date_is = sym named.date ∙ its.date;
+      } in
+      subst (λ (o : Option Revisited). IfSome o (TellsOf book number)) (sym refers) tells
+
   pub answers_by : (told : Bool) (texts : List (List ℕ)) → (IsTrue told → IsPlaced texts book number spot) → spot.digest ≡ group.digest
-      → IsToldBy book.namespace same number spot → (len : ℕ) → (IsTrue told → KeepsSoLong book number len)
+      → IsToldBy book.namespace same number spot → (len : ℕ) → (IsTrue told → KeepsSoLong book number len) → TellsSoLong book.namespace number spot.digest len
       → (does : Bool) → Agrees group.stored.method group.stored.head len does → AsksOriginal told book group number (Ok does)
-  answers_by told texts placed digest named len keeps true agrees = λ so. named_is_original texts (placed so) digest named len (keeps so) agrees
-  answers_by told texts placed digest named len keeps false agrees = λ so of. original_agrees of len (keeps so) agrees
+  answers_by told texts placed digest named len keeps tells true agrees = (
+    record {
+      tells = tells_of named;
+      len = len;
+      read = subst (λ (d : List ℕ). TellsSoLong book.namespace number d len) digest tells;
+      agrees = agrees;
+    },
+    λ so. named_is_original texts (placed so) digest named len (keeps so) agrees,
+  )
+  answers_by told texts placed digest named len keeps tells false agrees = λ so of. original_agrees of len (keeps so) agrees
 
 pub original_keeps : (book : Book) (number : ℕ) (group : Group) (first : ℕ) → IsOriginalOf book number group first → KeepsWire book first
 original_keeps book number group first of = record { stored = of.original; wire = of.wire; placed = of.keeps.placed; kept = of.keeps.kept }
@@ -343,15 +375,29 @@ keeps_untold book spots number spot at of held forms.Cut e whole = absurd (false
 keeps_untold book spots number spot at of held (forms.Told true) e whole = absurd (false≢true whole)
 keeps_untold book spots number spot at of held (forms.Told false) e whole = held.each number spot at e
 
+-- the digest that is kept of it is its own, where the book has its request
+digest_untold : (book : Book) (spots : List Spot) (digest : List ℕ) (number : ℕ) → AreSpotsOf book spots → MayBeWholeAt spots number
+    → IsKeptWith spots digest number → HasRequest book number → HasDigestOf book number digest
+digest_untold book spots digest number are whole kept asked =
+    let spot : Spot = whole.spot in
+    let at : spot ≡ get_or spots number spot
+    = same_Some spot (get_or spots number spot) (sym whole.placed ∙ slice_get-get_or spots number spot (slice_get_within spots number spot whole.placed)) in
+    subst (λ (d : List ℕ). HasDigestOf book number d) (kept spot whole.placed)
+    (has_own book number spot (are.each number spot whole.placed) (its_own book spots are number whole spot at) asked)
+
 pub found_by : (told : Bool) (book : Book) (spots : List Spot) (group : Group) (number : ℕ) → AreSpotsOf book spots → (IsFalse told → AreHeldWhole book spots)
-    → MayBeWholeAt spots number → AsksOriginal told book group number (Ok true) → IsFoundOriginal told book group number
-found_by true book spots group number are held whole asks = record {
-  keeps = original_keeps book (length (captures book)) group number (asks refl);
-  is = asks;
+    → MayBeWholeAt spots number → IsKeptWith spots group.digest number → AsksOriginal told book group number (Ok true) → IsFoundOriginal told book group number
+found_by true book spots group number are held whole kept asks = record {
+  named = asks.0;
+  keeps = original_keeps book (length (captures book)) group number (asks.1 refl);
+  by_digest = digest_untold book spots group.digest number are whole kept;
+  is = asks.1;
 }
-found_by false book spots group number are held whole asks = record {
+found_by false book spots group number are held whole kept asks = record {
+  named = asks.0;
   keeps = keeps_untold book spots number whole.spot whole.placed (are.each number whole.spot whole.placed) (held refl) whole.spot.form refl whole.whole;
-  is = asks;
+  by_digest = digest_untold book spots group.digest number are whole kept;
+  is = asks.1;
 }
 
 -- one more isn't it

@@ -1,5 +1,5 @@
 -- The capture to which the group of a piece refers, of those that are kept.
-use Rattle.std.specs.Prelude.{◌≡◌, ◌≢◌, ℕ, ◌^◌, ◌<◌, Bool, true, false, IsTrue, List, length, get_or, nat_eq, Option, Some, None, Result, Ok, Err, ⊤}
+use Rattle.std.specs.Prelude.{◌≡◌, ◌≢◌, ℕ, ◌^◌, ◌<◌, Bool, true, false, IfSome, IsTrue, List, length, get_or, nat_eq, Option, Some, None, Result, Ok, Err, ⊤}
 use Rattle.capture.specs.Captures.{KeepsPayload, captures}
 use Rattle.capture.specs.declared.book.Book.{Book}
 use Rattle.capture.specs.declared.captured.Stored.{Stored}
@@ -8,10 +8,13 @@ use Rattle.capture.specs.declared.framing.Framing.TheVariants as framings
 use Rattle.warc_scan.specs.Groups.{IsGroup}
 use Rattle.warc_scan.specs.declared.group.Group.{Group}
 use Rattle.warc_scan.specs.declared.group.Revisited.{Revisited}
+use Rattle.warc_scan.specs.declared.outline.Outline.{Outline}
 use Rattle.archive_shelf.specs.Answers.{IsDamaged}
-use Rattle.archive_shelf.specs.Comparing.{KeepsWire}
+use Rattle.archive_shelf.specs.Comparing.{HasDigestOf, HasRequest, KeepsWire}
 use Rattle.archive_gathering.specs.Revisits.{IsOriginalOf, RefersToNone}
 use Rattle.archive_reading.specs.Decoding.{TellsFraming}
+use Rattle.archive_reading.specs.KeptGroups.{IsTold}
+use Rattle.archive_reading.specs.Rereading.{TellsOf}
 use Rattle.archive_reading.specs.declared.kept_group.KeptGroup.{KeptGroup}
 use Rattle.archive_reading.specs.declared.kept_group.KeptGroup.TheVariants as kept_groups
 use Rattle.archive_pieces.specs.declared.fault.PieceFault.{PieceFault}
@@ -43,6 +46,14 @@ abbrev pub whole_len_by : Option Revisited → Bool → ℕ → Option ℕ
 whole_len_by (Some same) cut len = None
 whole_len_by None true len = None
 whole_len_by None false len = Some len
+
+-- a group with this number tells this digest, and that its own payload is so long
+pub record TellsSoLong (namespace : List ℕ) (number : ℕ) (digest : List ℕ) (len : ℕ) : Type 0 where
+  pub bytes : List ℕ
+  pub outline : Outline
+  pub is : IsTold namespace number bytes outline
+  pub digest_is : outline.digest ≡ digest
+  pub long : whole_len_by outline.same outline.cut outline.payload_len ≡ Some len
 
 -- what was read of the group, where this digest is kept
 pub record IsLengthBy (kept digest : List ℕ) (same : Option Revisited) (cut : Bool) (len : ℕ) (found : Option ℕ) : Type 0 where
@@ -80,8 +91,17 @@ pub record IsNextGroup (book : Book) (group : Group) : Type 0 where
   pub text : List ℕ
   pub is : IsGroup book.namespace (length (captures book)) text group
 
+-- Whatever the disk tells, a group names this capture of the book: its record tells the id, the target and the date of that. A group of the capture's number,
+-- which was read, tells the same digest as this one, and a length of its payload that agrees with the head of this one.
+pub record IsNamedBy (book : Book) (group : Group) (number : ℕ) : Type 0 where
+  pub tells : IfSome group.same (TellsOf book number)
+  pub len : ℕ
+  pub read : TellsSoLong book.namespace number group.digest len
+  pub agrees : Agrees group.stored.method group.stored.head len true
+
 abbrev pub AsksOriginal : Bool → Book → Group → ℕ → Result Bool PieceFault → Type 0
-AsksOriginal told book group number (Ok true) = IsTrue told → IsOriginalOf book (length (captures book)) group number
+AsksOriginal told book group number (Ok true) =
+    IsNamedBy book group number × (IsTrue told → IsOriginalOf book (length (captures book)) group number)
 AsksOriginal told book group number (Ok false) = IsTrue told → IsOriginalOf book (length (captures book)) group number → ⊥
 AsksOriginal told book group number (Err (pieces.Full count limit)) = ⊥
 AsksOriginal told book group number (Err pieces.NotAPiece) = ⊥
@@ -95,9 +115,12 @@ AsksOriginal told book group number (Err pieces.Memory) = ⊤
 abbrev pub NoneIs : Book → Group → List ℕ → ℕ → Type 0
 NoneIs book group candidates many = (k : ℕ) → k < many → IsOriginalOf book (length (captures book)) group (get_or candidates k 0) → ⊥
 
--- whatever the disk tells, it keeps its whole wire; where the book is told, it is the one to which the group refers
+-- Whatever the disk tells, the group names it; it keeps its whole wire, and has the digest that the group tells, where the book has its request. Where the
+-- book is told, it is the one to which the group refers.
 pub record IsFoundOriginal (told : Bool) (book : Book) (group : Group) (first : ℕ) : Type 0 where
+  pub named : IsNamedBy book group first
   pub keeps : KeepsWire book first
+  pub by_digest : HasRequest book first → HasDigestOf book first group.digest
   pub is : IsTrue told → IsOriginalOf book (length (captures book)) group first
 
 -- what looking for it answers

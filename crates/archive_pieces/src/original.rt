@@ -1,15 +1,16 @@
 //! The capture to which a piece refers.
-ghost use Rattle.std.specs.Prelude.{◌≡◌, ◌<◌, IfOk, IsFalse, IsTrue, Some, None, length, slice_get};
+ghost use Rattle.std.specs.Prelude.{◌≡◌, ◌<◌, IfOk, IfSome, IsFalse, IsTrue, Some, None, length, slice_get};
 ghost use Rattle.warc_journal.specs.Journals.{disk_of};
 ghost use Rattle.archive_shelf.specs.Answers.{CountsIf};
 ghost use Rattle.archive_reading.specs.Bringing.{OnlyReads};
 ghost use Rattle.archive_volumes.specs.Volumes.{CanReadBy};
 ghost use Rattle.archive_volumes.specs.Spots.{AreHeldWhole, MayBeWhole, whole_from};
 ghost use Rattle.archive_volumes.specs.Held.{book_of};
+ghost use Rattle.archive_payloads.specs.Choosing.{IsKeptWith};
 ghost use Rattle.archive_reading.specs.Rereading.{HaveDigest, IsToldBy};
 ghost use Rattle.archive_volumes.specs.declared.spot.Spot.{Spot as SpotValue};
 ghost use Rattle.archive_pieces.specs.PieceFaults.{is_take_fault};
-ghost use Rattle.archive_pieces.specs.PieceOriginals.{Agrees, AsksLength, AsksOriginal, ChoosesOriginal, FindsOriginal, IsLengthIn, IsLengthOf, IsNextGroup, agrees_by, whole_len_by};
+ghost use Rattle.archive_pieces.specs.PieceOriginals.{Agrees, AsksLength, AsksOriginal, ChoosesOriginal, FindsOriginal, IsLengthIn, IsLengthOf, IsNextGroup, TellsSoLong, agrees_by, whole_len_by};
 
 use crate::fault::PieceFault;
 use archive_reading::{KeptGroup, framing_behind, read_group};
@@ -113,6 +114,8 @@ fn whole_len<D: Disk>(
     requires readable { CanReadBy D.Disk told.now.value volumes.old.journal (book_of volumes.old.held) spots.now }
     requires below { number < length spots.now }
     ensures asks { AsksLength told.now.value (book_of volumes.old.held) number result }
+    ensures tells { (spot : SpotValue) → slice_get spots.now number ≡ Some spot
+        → IfOk result (λ found. IfSome found (TellsSoLong (book_of volumes.old.held).namespace number spot.digest)) }
     ensures reads { OnlyReads D.Disk volumes.old volumes.new }
     ensures faults { CountsIf (is_take_fault result) (D.faults (disk_of volumes.old.journal)) (D.faults (disk_of volumes.new.journal)) }
 {
@@ -174,6 +177,7 @@ fn first_original<D: Disk>(
     requires group { IsNextGroup (book_of volumes.old.held) group.now }
     requires same { group.now.same ≡ Some same.now }
     ensures chooses { ChoosesOriginal told.now.value (book_of volumes.old.held) group.now candidates.now result }
+    ensures kept { IfOk result (λ found. IfSome found (IsKeptWith spots.now group.now.digest)) }
     ensures reads { OnlyReads D.Disk volumes.old volumes.new }
     ensures faults { CountsIf (is_take_fault result) (D.faults (disk_of volumes.old.journal)) (D.faults (disk_of volumes.new.journal)) }
 {
@@ -200,6 +204,7 @@ pub fn original_of<D: Disk>(
     requires table { table.now.kept ≡ whole_from 0 spots.now }
     requires group { IsNextGroup (book_of volumes.old.held) group.now }
     ensures finds { FindsOriginal told.now.value (book_of volumes.old.held) group.now result }
+    ensures kept { IfOk result (λ found. IfSome found (IsKeptWith spots.now group.now.digest)) }
     ensures reads { OnlyReads D.Disk volumes.old volumes.new }
     ensures faults { CountsIf (is_take_fault result) (D.faults (disk_of volumes.old.journal)) (D.faults (disk_of volumes.new.journal)) }
 {

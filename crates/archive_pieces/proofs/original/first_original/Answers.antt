@@ -71,9 +71,12 @@ returns-then-is-clause-chooses g c =
     let number = get_or c.args.candidates.now k 0 in
     let told = c.args.told.now.value in
     found_by told (book_of c.args.volumes.now.held) c.args.spots.now c.args.group.now number c.requires.readable.are c.requires.made
-    (c.requires.whole k c.loop-candidate-test.true)
+    (c.requires.whole k c.loop-candidate-test.true) (λ spot at. c.requires.digest k spot c.loop-candidate-test.true at)
     (subst (λ (b : Book). AsksOriginal told b c.args.group.now number (Ok true)) (ap book_of c.loop-candidate.invariant.reads.held)
     (subst (λ (b : Bool). AsksOriginal told (book_of c.loop-candidate.volumes.held) c.args.group.now number (Ok b)) c.if-is.true c.in_ok-is.ensures.asks))
+
+pub returns-then-is-clause-kept : goal.returns-then-is-clause-kept
+returns-then-is-clause-kept g c spot at = c.requires.digest c.loop-candidate.candidate-index spot c.loop-candidate-test.true at
 
 pub returns-then-is-clause-reads : goal.returns-then-is-clause-reads
 returns-then-is-clause-reads g c =

@@ -1,11 +1,12 @@
 use Rattle.std.proofs.Common.{Bool, ℕ, Option, Ok, Some, ap, length, refl, subst, sym, ◌∙◌}
+use Rattle.std.specs.Prelude.{IfSome}
 use Rattle.std.proofs.lemmas.Option.{slice_get-get_or}
 use Rattle.capture.specs.Captures.{captures}
 use Rattle.warc_journal.specs.Journals.{disk_of, texts}
 use Rattle.archive_reading.proofs.BringLaws.{reads_itself}
 use Rattle.archive_volumes.specs.Held.{book_of}
 use Rattle.archive_volumes.specs.declared.spot.Spot.{Spot}
-use Rattle.archive_pieces.specs.PieceOriginals.{AsksLength}
+use Rattle.archive_pieces.specs.PieceOriginals.{AsksLength, TellsSoLong}
 use Rattle.archive_pieces.proofs.PieceOriginalLaws.{answers_by, asks_exit, original_keeps, original_named, same_faults}
 use Rattle.archive_pieces.proofs.original.is_original.Goals as goal
 
@@ -27,6 +28,7 @@ returns-in_ok-does-in-Some-clause-asks g c =
     c.args.spots.now spot at c.requires.readable.are told (texts g.D.Disk c.args.volumes.now.journal) (λ so. (c.requires.readable.placed so).each c.args.number spot at)
     (c.requires.digest spot at) (c.is_named.ensures.met c.if-not-is_named.false) c.in-Some.len
     (subst (λ found. AsksLength told book c.args.number (Ok found)) c.in-Some.is c.in_ok-len.ensures.asks)
+    (subst (λ found. IfSome found (TellsSoLong book.namespace c.args.number spot.digest)) c.in-Some.is (c.in_ok-len.ensures.tells spot at))
     c.in_ok-does-in-Some.does c.in_ok-does-in-Some.ensures
 
 pub returns-then-not-is_named-clause-reads : goal.returns-then-not-is_named-clause-reads
