@@ -1,6 +1,6 @@
 -- How the taking of a piece ends: it is full, it is no piece, a fault was met, or it was taken.
 use Rattle.std.proofs.Common.{◌≡◌, ℕ, ◌+◌, ◌-◌, ◌<◌, Bool, true, IsTrue, List, [], ◌∷◌, ◌++◌, length, get_or, Option, Some, None, Result, Ok, Err, refl, sym, ap, subst, ◌∙◌, inl, inr, ⊎_elim, arith}
-use Rattle.std.specs.Prelude.{IsErrAnd, OnErr, drop, ⊤}
+use Rattle.std.specs.Prelude.{IfOk, IfSome, IsErrAnd, OnErr, drop, ⊤}
 use Rattle.capture.specs.Captures.{captures}
 use Rattle.capture.specs.declared.book.Book.{Book}
 use Rattle.disk_model.specs.Image.{Image}
@@ -31,6 +31,9 @@ use Rattle.archive_volumes.proofs.WrittenLaws.{texts_since}
 use Rattle.archive_volumes.specs.Volumes.{crash_of, muted}
 use Rattle.archive_volumes.specs.Writing.{Writes, books_as}
 use Rattle.archive_volumes.specs.Written.{WritesTexts, texts_as}
+use Rattle.archive_payloads.specs.Choosing.{IsKeptWith}
+use Rattle.archive_index.specs.Shown.{numbered}
+use Rattle.archive_core.proofs.NamedLaws.{digest_shown}
 use Rattle.archive_core.specs.Basis.{StoringBasis}
 use Rattle.archive_core.specs.Holdings.{Holdings, IsArchive, contents_of}
 use Rattle.archive_core.specs.Looking.{OnlyLooks}
@@ -40,7 +43,7 @@ use Rattle.archive_pieces.specs.PieceOriginals.{FindsOriginal}
 use Rattle.archive_pieces.specs.PieceParts.{HasNoParts, IsNoPiece, IsReadAs, book_by, room_by}
 use Rattle.archive_pieces.specs.PieceReady.{IsPastBounds, IsWithinBounds, MayHold, RefersSo, end_by, end_in}
 use Rattle.archive_core.specs.Stores.{Admits}
-use Rattle.archive_taking.specs.TakingPieces.{HasPut, IsUnput, IsUntouched, PieceLeaves, Puts, TakesPiece}
+use Rattle.archive_taking.specs.TakingPieces.{HasPut, IsUnput, IsUntouched, PieceLeaves, Puts, ShowDigest, TakesPiece}
 use Rattle.archive_core.specs.Texts.{texts_room}
 use Rattle.archive_core.specs.Told.{told_of, told_on}
 use Rattle.archive_taking.specs.steps.Taking.{FindsWithin, disk_failed, parts_as, took, Remains}
@@ -81,6 +84,17 @@ pub finds_within : (told : Bool) (book : Book) (group : Group) (end : ℕ) → I
     → FindsOriginal told book group result → FindsWithin told book group end result
 finds_within told book group end within (Ok first) finds = (within, finds)
 finds_within told book group end within (Err fault) finds = inr finds
+
+-- what was found is shown with the digest that is kept of it
+shown_with : {D : Type 0} (d : Ghosts D) (held : Holdings D) → IsArchive d held → (digest : List ℕ) (same : Option ℕ)
+    → IfSome same (IsKeptWith held.spots digest) → ShowDigest (numbered held.index) digest same
+shown_with d held is digest None kept = tt
+shown_with d held is digest (Some number) kept = digest_shown d held number is digest (λ spot here. sym (kept spot here))
+
+pub found_shown : {D : Type 0} (d : Ghosts D) (held : Holdings D) → IsArchive d held → (digest : List ℕ) (result : Result (Option ℕ) PieceFault)
+    → IfOk result (λ found. IfSome found (IsKeptWith held.spots digest)) → IfOk result (ShowDigest (numbered held.index) digest)
+found_shown d held is digest (Ok same) kept = shown_with d held is digest same kept
+found_shown d held is digest (Err fault) kept = tt
 
 -- what passes a bound is no piece
 past_none : {D : Type 0} (d : Ghosts D) → StoringBasis → (was : Holdings D) → IsArchive d was → (bytes : List ℕ) (begins : Option ℕ) (at : ℕ)
@@ -280,7 +294,8 @@ module _ {D : Type 0} (d : Ghosts D) (was mid : Holdings D) (looks : OnlyLooks d
         (subst (λ (n : ℕ). IsWithinBounds group (end_in was.book n begins)) (sym (ends_by d was mid looks))
         (subst (λ (n : ℕ). IsWithinBounds group n) (same_end was.book read.front begins at (last_len was.journal) read.is_front read.at_is) within))
 
-    module _ (laws : DiskLaws d) (is : Holdings D) (first : Option ℕ) (finds : RefersSo mid.told mid.book group first) (text : List ℕ) (text_is : text ≡ read.text) where
+    module _ (laws : DiskLaws d) (is : Holdings D) (first : Option ℕ) (finds : RefersSo mid.told mid.book group first)
+        (shown : ShowDigest (numbered was.index) group.digest first) (text : List ℕ) (text_is : text ≡ read.text) where
       refers : RefersSo was.told was.book group first
       refers = subst (λ (h : Holdings D). RefersSo h.told h.book group first) looks.others finds
 
@@ -314,6 +329,7 @@ module _ {D : Type 0} (d : Ghosts D) (was mid : Holdings D) (looks : OnlyLooks d
           first = first;
           read = read;
           refers = refers;
+          as_shown = shown;
           put = put_on d laws was mid is looks read.text group first begins number
               (subst (λ (l : List ℕ). HasPut d mid is (parts_as l group first begins) number) text_is put);
           some = subst (λ (n : ℕ). IsSomePiece is.book n bytes) (ap (λ (b : Book). length (captures b)) (sym same_book) ∙ sym put.number_is)
@@ -337,6 +353,7 @@ module _ {D : Type 0} (d : Ghosts D) (was mid : Holdings D) (looks : OnlyLooks d
           first = first;
           read = read;
           refers = refers;
+          as_shown = shown;
           unput = unput_on d laws was mid is looks read.text group first begins
               (subst (λ (l : List ℕ). IsUnput d mid is (parts_as l group first begins)) text_is put);
           takes = λ told. takes_so told put.sound put.group_is;

@@ -1,5 +1,5 @@
 -- What it is to take the piece of another archive's capture, and what that leaves.
-use Rattle.std.specs.Prelude.{◌≤◌, ◌≡◌, ◌⊎◌, ℕ, ◌+◌, ◌<◌, true, IsTrue, List, [], ◌∷◌, ◌++◌, length, Option, Result, Ok, Err, ⊤}
+use Rattle.std.specs.Prelude.{◌≤◌, ◌≡◌, ◌⊎◌, ℕ, ◌+◌, ◌<◌, true, Contains, IfSome, IsTrue, List, [], ◌∷◌, ◌++◌, length, Option, Result, Ok, Err, ⊤}
 use Rattle.capture.specs.Captures.{captures}
 use Rattle.capture.specs.Growth.{Grows}
 use Rattle.capture.specs.declared.book.Book.{Book}
@@ -86,7 +86,13 @@ Puts d was is parts (Err pieces.Memory) = IsUntouched was is
 
 -- ---- a piece
 
--- The piece was taken: the capture of its group was put behind all others, and the book has just that piece more.
+-- each of these entries under the number of a capture, if it is of any, tells this digest
+abbrev pub ShowDigest : List Facts → List ℕ → Option ℕ → Type 0
+ShowDigest entries digest same =
+    IfSome same (λ number. (entry : Facts) → Contains entries entry → entry.number ≡ number → entry.digest ≡ digest)
+
+-- The piece was taken: the capture of its group was put behind all others, and the book has just that piece more. Whatever is told, what it refers to is the
+-- capture of the book before it that its record names, and is shown with the digest that the group tells.
 pub record HasTaken {D : Type 0} (d : Ghosts D) (was is : Holdings D) (bytes : List ℕ) (number : ℕ) : Type 0 where
   pub begins : Option ℕ
   pub at : ℕ
@@ -94,11 +100,12 @@ pub record HasTaken {D : Type 0} (d : Ghosts D) (was is : Holdings D) (bytes : L
   pub first : Option ℕ
   pub read : IsReadAs was.book bytes begins at group
   pub refers : RefersSo was.told was.book group first
+  pub as_shown : ShowDigest (numbered was.index) group.digest first
   pub put : HasPut d was is (record { text = read.text; group = group; first = first; begins = begins }) number
   pub some : IsSomePiece is.book number bytes
   pub takes : IsTrue was.told → Takes was.book bytes is.book
 
--- The disk refused it when it was to be written. The book is left, or it with the volume that the piece begins.
+-- The disk refused it when it was to be written. The book is left, or it with the volume that the piece begins. What it was to refer to is named and shown likewise.
 pub record IsUntaken {D : Type 0} (d : Ghosts D) (was is : Holdings D) (bytes : List ℕ) : Type 0 where
   pub begins : Option ℕ
   pub at : ℕ
@@ -106,6 +113,7 @@ pub record IsUntaken {D : Type 0} (d : Ghosts D) (was is : Holdings D) (bytes : 
   pub first : Option ℕ
   pub read : IsReadAs was.book bytes begins at group
   pub refers : RefersSo was.told was.book group first
+  pub as_shown : ShowDigest (numbered was.index) group.digest first
   pub unput : IsUnput d was is (record { text = read.text; group = group; first = first; begins = begins })
   pub takes : IsTrue was.told → Takes was.book bytes (book_by was.book begins group first)
 

@@ -8,10 +8,11 @@ ghost use Rattle.archive_shelf.specs.Answers.{CountsIf};
 ghost use Rattle.archive_pieces.specs.PieceFaults.{is_take_fault, store_fault_as};
 ghost use Rattle.archive_core.specs.Holdings.{IsArchive};
 ghost use Rattle.archive_core.specs.Looking.{OnlyLooks};
+ghost use Rattle.archive_index.specs.Shown.{numbered};
 ghost use Rattle.archive_pieces.specs.PieceOriginals.{IsNextGroup};
 ghost use Rattle.archive_pieces.specs.PieceParts.{IsFoundIn};
 ghost use Rattle.archive_pieces.specs.PieceReady.{IsWithinBounds, MayHold, RefersSo, end_by, end_in};
-ghost use Rattle.archive_taking.specs.TakingPieces.{Puts, TakesPiece};
+ghost use Rattle.archive_taking.specs.TakingPieces.{Puts, ShowDigest, TakesPiece};
 ghost use Rattle.archive_taking.specs.steps.Taking.{FindsWithin, HasText, parts_as};
 
 use archive_core::{Archive, revisits_in, storing_has_a_basis};
@@ -134,6 +135,7 @@ fn original_in<D: Disk>(
 ) -> Result<Option<u32>, PieceFault>
     requires { IsNextGroup archive.old.book found.now.group }
     ensures finds { FindsWithin archive.new.told archive.new.book found.now.group (end_by found.now.begins found.now.at (last_len archive.old.journal)) result }
+    ensures shown { IfOk result (ShowDigest (numbered archive.old.index) found.now.group.digest) }
     ensures looks { OnlyLooks D.Disk archive.old archive.new }
     ensures was { IsArchive D.Disk archive.old }
     ensures faults { CountsIf (is_take_fault result) (D.faults (disk_of archive.old.journal)) (D.faults (disk_of archive.new.journal)) }

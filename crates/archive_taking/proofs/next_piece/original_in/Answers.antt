@@ -1,16 +1,20 @@
 use Rattle.std.proofs.Common.{ℕ, List, inl, refl, sym, ap, subst, ◌∙◌}
+use Rattle.std.specs.Prelude.{IfOk, IfSome}
 use Rattle.capture.specs.declared.book.Book.{Book}
 use Rattle.warc_journal.specs.Journals.{last_len}
 use Rattle.archive_volumes.proofs.ChangeLaws.{DiskLaws}
 use Rattle.archive_volumes.specs.Held.{book_of}
 use Rattle.archive_volumes.specs.Spots.{AreHeldWhole, whole_from}
 use Rattle.archive_volumes.specs.declared.spot.Spot.{Spot}
+use Rattle.archive_payloads.specs.Choosing.{IsKeptWith}
+use Rattle.archive_index.specs.Shown.{numbered}
 use Rattle.archive_core.specs.Holdings.{Holdings, IsArchive}
 use Rattle.archive_core.specs.Looking.{OnlyLooks}
 use Rattle.archive_pieces.specs.PieceOriginals.{FindsOriginal, IsNextGroup}
 use Rattle.archive_pieces.specs.PieceReady.{IsPastBounds, IsWithinBounds, end_by}
 use Rattle.archive_core.specs.View.{holdings_of}
-use Rattle.archive_taking.proofs.PieceTakenLaws.{finds_within}
+use Rattle.archive_taking.specs.TakingPieces.{ShowDigest}
+use Rattle.archive_taking.proofs.PieceTakenLaws.{finds_within, found_shown}
 use Rattle.archive_core.proofs.ReadLaws as laws
 use Rattle.archive_taking.proofs.next_piece.original_in.Given.{Over}
 use Rattle.archive_volumes.specs.Volumes.{CanReadBy}
@@ -63,6 +67,13 @@ returns-clause-finds g c =
     finds_within c.archive.inside.told.value (book_of c.original_of.new.volumes.held) found.group (end_by found.begins found.at (last_len c.args.archive.now.journal))
     (subst (λ (n : ℕ). IsWithinBounds found.group n) end (c.passes_bounds.ensures.within c.if-passes_bounds.false)) c.original_of.result
     (subst (λ (b : Book). FindsOriginal c.archive.inside.told.value b found.group c.original_of.result) (sym same) c.original_of.ensures.finds)
+
+pub returns-clause-shown : goal.returns-clause-shown
+returns-clause-shown g c =
+    let digest = c.args.found.now.group.digest in
+    subst (λ (held : Holdings _). IfOk c.original_of.result (ShowDigest (numbered held.index) digest)) c.archive.view_is
+    (found_shown g.D.Disk (holdings_of c.archive.inside) c.archive.invariant digest c.original_of.result
+    (subst (λ (l : List Spot). IfOk c.original_of.result (λ found. IfSome found (IsKeptWith l digest))) c.as_slice.ensures.value c.original_of.ensures.kept))
 
 pub returns-clause-was : goal.returns-clause-was
 returns-clause-was g c = subst (λ (held : Holdings _). IsArchive g.D.Disk held) c.archive.view_is c.archive.invariant

@@ -58,4 +58,4 @@ returns g c =
     let same = laws.text_same g.D.Disk was mid looks c.args.bytes.now found.begins found.at found.group c.requires.read c.requires.not_full text
     c.split_at.ensures.back in
     laws.taken_by g.D.Disk was mid looks c.args.bytes.now found.begins found.at found.group c.requires.read c.requires.not_full (disk_laws g)
-    c.put_piece.new.archive c.in_ok-first.first c.in_ok-first.ensures.finds.1 text same c.put_piece.result c.put_piece.ensures.puts c.in_ok-first.ensures.faults c.put_piece.ensures.faults
+    c.put_piece.new.archive c.in_ok-first.first c.in_ok-first.ensures.finds.1 c.in_ok-first.ensures.shown text same c.put_piece.result c.put_piece.ensures.puts c.in_ok-first.ensures.faults c.put_piece.ensures.faults
