@@ -22,10 +22,10 @@ use Rattle.index_entry.specs.OfBook.{AreEntries}
 use Rattle.disk_model.specs.Crash.{Leaves}
 use Rattle.disk_model.specs.declared.disk.Disk.{Ghosts as Disks}
 use Rattle.history_lock.specs.Known.{Known}
+use Rattle.vault_lists.specs.Items.{shown_in}
 use Rattle.vault_turns.specs.Calm.{IsCalm}
 use Rattle.vault.specs.Company.{Passing, contents_at, told_at}
 use Rattle.vault_turns.specs.History.{told_book}
-use Rattle.vault_turns.specs.Items.{shown_in}
 use Rattle.vault.specs.Members.{AreMembers, AreNewMembers, IsMember, IsMemberAt, IsNewMember, VaultName}
 use Rattle.vault_turns.specs.Own.{own_captures, own_faults}
 use Rattle.vault.specs.Sharing.{HasItsOwn, IsLeftByAll, IsSharedOut as IsHistoryShared, all_stored}

@@ -5,12 +5,13 @@ use Rattle.capture.specs.GrowthLaws.{GrowsFromItself, GrowthGoesOn, GrowthKeepsC
 use Rattle.archive_shelf.specs.Told.{KnowsBook, LooksOn}
 use Rattle.history_lock.specs.Known.{Known}
 use Rattle.index_snapshot.specs.Edges.{Edge}
+use Rattle.vault_lists.specs.Finding.{HasSeen}
+use Rattle.vault_lists.specs.Items.{shown_in}
+use Rattle.vault_lists.specs.declared.item.Item.{Item}
 use Rattle.vault.specs.Company.{Passing, contents_at, told_at}
 use Rattle.vault_turns.specs.History.{is_told, told_book, told_limits}
-use Rattle.vault_turns.specs.Items.{shown_in}
-use Rattle.vault_turns.specs.Listing.{HasSeen, IsListed}
+use Rattle.vault_turns.specs.Listing.{IsListed}
 use Rattle.vault_turns.specs.Own.{own_captures, own_faults}
-use Rattle.vault_turns.specs.declared.item.Item.{Item}
 use Rattle.vault_turns.specs.declared.noted.Noted.{Noted}
 use Rattle.vault_turns.proofs.SeenLaws.{shown_begins}
 use Rattle.vault.proofs.ShowingLaws.{knows_book}

@@ -9,11 +9,11 @@ use Rattle.history_lock.specs.Known.{Known}
 use Rattle.history_lock.specs.Seen.{Turn}
 use Rattle.index_snapshot.specs.Edges.{Edge}
 use Rattle.index_snapshot.specs.Entries.{entries_in}
+use Rattle.vault_lists.specs.Items.{brings_of, shown_in}
+use Rattle.vault_lists.specs.declared.item.Item.{Item}
 use Rattle.vault.specs.Company.{contents_at}
 use Rattle.vault_turns.specs.History.{IsBegun, by_of, is_told, showing, told_book}
-use Rattle.vault_turns.specs.Items.{brings_of, shown_in}
 use Rattle.vault_turns.specs.Turns.{AddsFaultAlone, BringsIt, GivesIt, held_back}
-use Rattle.vault_turns.specs.declared.item.Item.{Item}
 use Rattle.vault_turns.specs.declared.noted.Noted.{Noted}
 use Rattle.vault_turns.proofs.AnswerLaws.{brings_as, brings_quiet, gives_as, gives_quiet, held_digests, held_fault, held_names, held_piece_digests}
 use Rattle.vault_turns.proofs.HistoryLaws.{begun_append}

@@ -4,10 +4,10 @@ use mathlib.Core.List.{IsPrefix}
 use Rattle.history_lock.specs.Seen.{Shows}
 use Rattle.index_snapshot.specs.Edges.{Edge}
 use Rattle.logbook.specs.Pages.{Book as LogBook}
+use Rattle.vault_lists.specs.Items.{tells_in}
+use Rattle.vault_lists.specs.declared.item.Item.{Item}
 use Rattle.vault_turns.specs.History.{Names, by_of, is_told, told_book}
-use Rattle.vault_turns.specs.Items.{tells_in}
 use Rattle.vault_turns.specs.Listing.{HasBook, HasEntries, IsListed}
-use Rattle.vault_turns.specs.declared.item.Item.{Item}
 use Rattle.vault_turns.specs.declared.noted.Noted.{Noted}
 use Rattle.vault_turns.proofs.PublishLaws.{names_append, names_begun}
 use Rattle.vault_turns.proofs.TellingLaws.{told_shown}

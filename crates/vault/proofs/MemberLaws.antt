@@ -17,9 +17,9 @@ use Rattle.archive_shelf.proofs.EarlierShowing.{shows_earlier}
 use Rattle.index_entry.specs.Facts.{Facts}
 use Rattle.history_lock.specs.Known.{IsSamePass, Known, LockId}
 use Rattle.history_lock.specs.Seen.{Turn}
+use Rattle.vault_lists.specs.Items.{shown_in}
 use Rattle.vault.specs.Company.{Passing, told_at}
 use Rattle.vault_turns.specs.History.{IsBegun, IsOpening, by_of, is_told, told_book, told_limits}
-use Rattle.vault_turns.specs.Items.{shown_in}
 use Rattle.vault.specs.Members.{AreMembers, AreNewMembers, IsMember, IsMemberAt, IsNewMember, VaultName, name_of}
 use Rattle.vault_turns.specs.Listing.{HasEntries}
 use Rattle.vault.specs.Orderly.{IsOrderly}

@@ -19,8 +19,8 @@ use Rattle.history_lock.proofs.pass.Pass.TheSendSync as pass
 use Rattle.index_snapshot.proofs.publisher.Publisher.TheSendSync as publisher
 use Rattle.index_snapshot.proofs.viewer.Viewer.TheSendSync as viewer
 use Rattle.index_snapshot.proofs.note.Note.TheSendSync as note
+use Rattle.vault_lists.specs.contracts.item.Item as item
 use Rattle.vault.specs.contracts.at.At as at
-use Rattle.vault_turns.specs.contracts.item.Item as item
 use Rattle.vault_turns.specs.contracts.keeping.Keeping as keeping
 use Rattle.vault.specs.contracts.pass.VaultPass as seated
 use Rattle.vault_turns.specs.contracts.published.Published as published

@@ -10,15 +10,15 @@ use Rattle.index_entry.specs.OfBook.{AreEntries}
 use Rattle.history_lock.specs.Known.{Known, LockId, newcomer}
 use Rattle.index_snapshot.specs.Edges.{Edge}
 use Rattle.index_snapshot.specs.Publishing.{Print, full_of}
+use Rattle.vault_lists.specs.Items.{AreItems, last_book, shown_in, tells_in}
+use Rattle.vault_lists.specs.declared.item.Item.{Item}
+use Rattle.vault_lists.proofs.ItemLaws.{shown_entries}
 use Rattle.vault.specs.Company.{Passing}
 use Rattle.vault_turns.specs.History.{IsOpening, given_faults, is_told, sure_in}
-use Rattle.vault_turns.specs.Items.{AreItems, last_book, shown_in, tells_in}
 use Rattle.vault_turns.specs.Listing.{IsListed}
 use Rattle.vault.specs.Passes.{IsNew}
-use Rattle.vault_turns.specs.declared.item.Item.{Item}
 use Rattle.vault_turns.specs.declared.noted.Noted.{Noted}
 use Rattle.vault_turns.specs.declared.noted.Sure.{Sure}
-use Rattle.vault_turns.proofs.ItemLaws.{shown_entries}
 
 module _ {A : Type 0} (P : A → Type 0) where
   pub first_of : (x : A) (xs all : List A) → all ≡ x ∷ xs → All P all → P x

@@ -20,12 +20,12 @@ use Rattle.archive_shelf.proofs.StoringLaws.{captures_stay}
 use Rattle.history_lock.specs.Known.{IsSamePass, Known}
 use Rattle.history_lock.specs.Seen.{All, Shows, Turn}
 use Rattle.index_snapshot.specs.Edges.{Edge}
+use Rattle.vault_lists.specs.Items.{shown_in}
+use Rattle.vault_lists.specs.declared.item.Item.{Item}
 use Rattle.vault.specs.Company.{Passing, contents_at, told_at}
 use Rattle.vault_turns.specs.History.{IsBegun, after_kind, book_after, by_of, given_faults, is_told, opened_book, sure_in, told_book, told_limits}
-use Rattle.vault_turns.specs.Items.{shown_in}
 use Rattle.vault_turns.specs.Own.{count_faults, fault_by, is_among, number_by, own_behind, own_captures, own_entries, own_faults}
 use Rattle.vault_turns.specs.Turns.{AddsFaultAlone, BeginsAtMost, CommitAnswers, IsStoring}
-use Rattle.vault_turns.specs.declared.item.Item.{Item}
 use Rattle.vault_turns.specs.declared.noted.Kind.{Kind}
 use Rattle.vault_turns.specs.declared.noted.Kind.TheVariants.{Opened, Began, Stored, Failed}
 use Rattle.vault_turns.specs.declared.noted.Noted.{Noted}

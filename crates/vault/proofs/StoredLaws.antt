@@ -20,9 +20,9 @@ use Rattle.archive_payloads.specs.Choosing.{is_look_fault}
 use Rattle.index_entry.specs.Facts.{Facts}
 use Rattle.history_lock.specs.Known.{IsSamePass, Known}
 use Rattle.history_lock.specs.Seen.{Turn}
+use Rattle.vault_lists.specs.Items.{shown_in}
 use Rattle.vault.specs.Company.{Passing, contents_at, told_at}
 use Rattle.vault_turns.specs.History.{IsBegun, by_of, is_told, told_book, told_in, told_limits}
-use Rattle.vault_turns.specs.Items.{shown_in}
 use Rattle.vault_turns.specs.Own.{own_captures}
 use Rattle.vault_turns.specs.Turns.{CommitAnswers, StoresBy}
 use Rattle.vault_turns.specs.declared.noted.Noted.{Noted}

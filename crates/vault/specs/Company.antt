@@ -6,10 +6,10 @@ use Rattle.archive_shelf.specs.Openings.{CrashStates}
 use Rattle.archive_shelf.specs.Told.{Told}
 use Rattle.history_lock.specs.Known.{Known}
 use Rattle.index_snapshot.specs.Edges.{Edge}
+use Rattle.vault_lists.specs.Items.{shown_in}
+use Rattle.vault_lists.specs.declared.item.Item.{Item}
 use Rattle.vault_turns.specs.History.{is_told, told_book, told_limits}
-use Rattle.vault_turns.specs.Items.{shown_in}
 use Rattle.vault_turns.specs.Own.{own_captures, own_faults}
-use Rattle.vault_turns.specs.declared.item.Item.{Item}
 use Rattle.vault_turns.specs.declared.noted.Noted.{Noted}
 
 -- a pass of a vault: what its lock's pass knows, and the list that it has seen by date

@@ -3,4 +3,3 @@ pub mod Orderly
 pub mod Sharing
 pub mod Company
 pub mod Members
-pub mod Finding

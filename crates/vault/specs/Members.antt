@@ -6,9 +6,9 @@ use Rattle.index_entry.specs.OfBook.{AreEntries}
 use Rattle.warc_text.specs.Sound.{IsSound}
 use Rattle.archive_shelf.specs.Storing.{empty_book}
 use Rattle.history_lock.specs.Known.{Known, LockId}
+use Rattle.vault_lists.specs.Items.{shown_in}
 use Rattle.vault.specs.Company.{Passing}
 use Rattle.vault_turns.specs.History.{IsOpening, given_faults, is_told, not_sure, sure_in, told_book, told_limits}
-use Rattle.vault_turns.specs.Items.{shown_in}
 use Rattle.vault.specs.Orderly.{IsOrderly, given_book}
 use Rattle.vault_turns.specs.declared.noted.Noted.{Noted}
 use Rattle.vault_turns.specs.declared.noted.Sure.{Sure}

@@ -5,10 +5,10 @@ use Rattle.capture.specs.declared.limits.Limits.{Limits}
 use Rattle.index_entry.specs.OfBook.{AreEntries}
 use Rattle.history_lock.specs.Known.{Known, LockId, newcomer}
 use Rattle.history_lock.specs.Seen.{Shows}
+use Rattle.vault_lists.specs.Items.{shown_in}
 use Rattle.vault_turns.specs.History.{IsBegun, IsOpening, by_of, given_faults, is_told, sure_in, told_book, told_limits}
 use Rattle.vault_turns.specs.Calm.{Crash}
 use Rattle.vault.specs.Company.{Passing}
-use Rattle.vault_turns.specs.Items.{shown_in}
 use Rattle.vault_turns.specs.Own.{AreCounted, faults_since}
 use Rattle.vault_turns.specs.declared.noted.Noted.{Noted}
 use Rattle.vault_turns.specs.declared.noted.Sure.{Sure}

@@ -3,12 +3,11 @@ ghost use mathlib.Core.List.{IsPrefix};
 ghost use Rattle.std.specs.Prelude.{◌≡◌, false, IfOk, OnOk};
 ghost use Rattle.archive_shelf.specs.Queries.{IsFound};
 ghost use Rattle.archive_shelf.specs.Told.{KnowsBook};
+ghost use Rattle.vault_lists.specs.Finding.{AreOfKey, AreStarting};
+ghost use Rattle.vault_lists.specs.Items.{shown_in};
 ghost use Rattle.vault.specs.Company.{contents_at};
-ghost use Rattle.vault.specs.Finding.{AreOfKey, AreStarting};
-ghost use Rattle.vault_turns.specs.Items.{shown_in};
 ghost use Rattle.vault.specs.Members.{IsMember};
 
-use crate::finding::{find_key, find_nearest, find_starting};
 use crate::naming::Naming;
 use crate::pass::VaultPass;
 use crate::vault::Vault;
@@ -19,6 +18,7 @@ use index_entry::Entry;
 use std::alloc::Global;
 use std::marker::{Model, PhantomData};
 use surt_key::Key;
+use vault_lists::{find_key, find_nearest, find_starting};
 
 /// A pass at the vault of this name. A contract sees it as the pass.
 #[derive(Drop)]

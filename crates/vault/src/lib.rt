@@ -3,7 +3,6 @@
 
 mod at;
 mod closing;
-mod finding;
 mod laws;
 mod naming;
 mod pass;

@@ -8,7 +8,8 @@ ghost use Rattle.vault_turns.specs.Listing.{HasEntries, IsListed};
 use history_lock::Pass;
 use index_snapshot::Viewer;
 use std::marker::Model;
-use vault_turns::{Books, Item, Listed, Noted};
+use vault_lists::{Books, Item, Listed};
+use vault_turns::Noted;
 
 /// The right to take turns at one vault. It knows the history that it saw last, and the list of books that it has seen by date, and
 /// nothing of the disk.

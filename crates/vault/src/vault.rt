@@ -7,10 +7,10 @@ ghost use Rattle.archive_shelf.specs.Answers.{Brings};
 ghost use Rattle.archive_shelf.specs.Pieces.{GivesPiece};
 ghost use Rattle.history_lock.specs.Known.{IsSamePass};
 ghost use Rattle.history_lock.specs.Seen.{Shows, Turn};
+ghost use Rattle.vault_lists.specs.Items.{brings_of, shown_in};
 ghost use Rattle.vault_turns.specs.Calm.{HasRightCheckpoints, IsCalm, StillStands, crash_left};
 ghost use Rattle.vault_turns.specs.History.{IsBegun, KeepsNames, Names, by_of, is_told};
 ghost use Rattle.vault.specs.Company.{contents_at};
-ghost use Rattle.vault_turns.specs.Items.{brings_of, shown_in};
 ghost use Rattle.index_snapshot.specs.Entries.{entries_in};
 ghost use Rattle.vault_turns.specs.Listing.{IsListed};
 ghost use Rattle.vault.specs.Passes.{IsLeft, IsNew};
@@ -28,9 +28,10 @@ use shown::Shown;
 use std::alloc::Global;
 use std::marker::Model;
 use std::sync::Wait;
+use vault_lists::{Item, Listed, longer};
 use vault_turns::{
-    Act, Bring, Commit, FirstAnswer, FirstTurn, Flush, Item, Listed, Noted, Piece, Published, Sure,
-    Telling, hold_back, longer,
+    Act, Bring, Commit, FirstAnswer, FirstTurn, Flush, Noted, Piece, Published, Sure, Telling,
+    hold_back,
 };
 
 /// An archive that several passes share. It isn't `Drop`: end it by `close`. A clause sees which lock it is.

@@ -14,6 +14,7 @@ use Rattle.index_entry.proofs.Members.{among_from_contains, contains_from_among}
 use Rattle.archive_index.specs.Shown.{numbered}
 use Rattle.archive_index.proofs.ShownLaws.{shown_all, shown_from}
 use Rattle.index_snapshot.proofs.Bringing.{number_put}
+use Rattle.vault_lists.proofs.FindingLaws.{number_here}
 use Rattle.vault_turns.specs.Taking.{HasBelow, IsGathered}
 
 -- ---- an entry more
@@ -76,16 +77,6 @@ pub has_nothing : (source : List Facts) → HasBelow 0 source []
 has_nothing source n = ap (λ (b : Bool). cond b (with_number n source) None) (sym (le-ltb n 0 (omega arith)))
 
 -- ---- all of them
-
-here_by : (index : List Facts) (e : Facts) (found : Option Facts) → with_number e.number index ≡ found → IsIndex index → Contains index e → found ≡ Some e
-here_by index e (Some f) is of has =
-    let some = with_number-some e.number index f is in
-    ap (λ (g : Facts). Some g) (of.alone f e (contains_from_among index f some.0) has some.1)
-here_by index e None is of has = absurd (with_number-none e.number index is e (among_from_contains index e has) refl)
-
--- an index finds its entries by their numbers
-pub number_here : (index : List Facts) (e : Facts) → IsIndex index → Contains index e → with_number e.number index ≡ Some e
-number_here index e of has = here_by index e (with_number e.number index) refl of has
 
 -- an entry of this list, under a number below the count
 abbrev IsBelow : ℕ → List Facts → Facts → Type 0

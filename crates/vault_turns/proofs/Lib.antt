@@ -9,5 +9,4 @@ pub mod SeenLaws
 pub mod FirstLaws
 pub mod TellingLaws
 pub mod GatherLaws
-pub mod ItemLaws
 pub mod PublishLaws

@@ -29,18 +29,18 @@ use Rattle.index_snapshot.specs.Entries.{IsNew, entries_in}
 use Rattle.index_snapshot.specs.Edges.{Edge}
 use Rattle.index_snapshot.specs.Publishing.{Print, full_of}
 use Rattle.logbook.specs.Pages.{Book as LogBook}
+use Rattle.vault_lists.specs.Items.{AreItems, GoesBehind, book_in, brings_of, last_book, tells_in}
+use Rattle.vault_lists.specs.declared.item.Item.{Item}
+use Rattle.vault_lists.proofs.ItemLaws.{all_below, all_of_last, behind_joined, last_joined, none_above, sorted_place}
 use Rattle.vault_turns.specs.Guarded.{AreShown, KeepsShown, Publishes, Stands}
 use Rattle.vault_turns.specs.History.{IsBegun, Names, after_kind, is_told, told_book}
-use Rattle.vault_turns.specs.Items.{AreItems, GoesBehind, book_in, brings_of, last_book, tells_in}
 use Rattle.vault_turns.specs.Listing.{HasBook, IsListed}
 use Rattle.vault_turns.specs.Taking.{IsGathered, TakesItem}
 use Rattle.vault_turns.specs.Turns.{AddsFaultAlone, CommitAnswers, changes}
-use Rattle.vault_turns.specs.declared.item.Item.{Item}
 use Rattle.vault_turns.specs.declared.noted.Kind.{Kind}
 use Rattle.vault_turns.specs.declared.noted.Kind.TheVariants.{Failed}
 use Rattle.vault_turns.specs.declared.noted.Noted.{Noted}
 use Rattle.vault_turns.proofs.HistoryLaws.{told_append, told_grows, told_stays}
-use Rattle.vault_turns.proofs.ItemLaws.{all_below, all_of_last, behind_joined, last_joined, none_above, sorted_place}
 
 -- ---- an item more
 

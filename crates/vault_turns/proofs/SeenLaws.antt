@@ -10,13 +10,13 @@ use Rattle.archive_shelf.specs.Contents.{Begins}
 use Rattle.index_snapshot.specs.Entries.{entries_in}
 use Rattle.index_snapshot.proofs.Bringing.{entries_joined}
 use Rattle.logbook.specs.Pages.{Book as LogBook}
+use Rattle.vault_lists.specs.Items.{brings_of, shown_in}
+use Rattle.vault_lists.specs.declared.item.Item.{Item}
+use Rattle.vault_lists.proofs.ItemLaws.{shows_same}
 use Rattle.vault_turns.specs.History.{Names, NamesIn}
-use Rattle.vault_turns.specs.Items.{brings_of, shown_in}
-use Rattle.vault_turns.specs.declared.item.Item.{Item}
 use Rattle.vault_turns.specs.declared.noted.Kind.{Kind}
 use Rattle.vault_turns.specs.declared.noted.Kind.TheVariants.{Opened, Began, Stored, Failed}
 use Rattle.vault_turns.specs.declared.noted.Noted.{Noted}
-use Rattle.vault_turns.proofs.ItemLaws.{shows_same}
 
 -- ---- one list
 

@@ -6,10 +6,10 @@ use Rattle.warc_text.specs.Sound.{IsSound}
 use Rattle.history_lock.specs.Known.{Known}
 use Rattle.history_lock.specs.Seen.{Adds, Shows, Turn}
 use Rattle.index_snapshot.specs.Edges.{Edge}
+use Rattle.vault_lists.specs.declared.item.Item.{Item}
 use Rattle.vault_turns.specs.History.{IsBegun, KeepsNames, Names, by_of, is_told, told_book}
 use Rattle.vault_turns.specs.Listing.{IsListed}
 use Rattle.vault_turns.specs.Turns.{AddsNone}
-use Rattle.vault_turns.specs.declared.item.Item.{Item}
 use Rattle.vault_turns.specs.declared.noted.Noted.{Noted}
 use Rattle.vault_turns.proofs.HistoryLaws.{begun_append, told_stays}
 use Rattle.vault_turns.proofs.PublishLaws.{names_append}

@@ -7,9 +7,9 @@ use Rattle.archive_core.specs.Holdings.{Holdings}
 use Rattle.archive_index.specs.Shown.{numbered}
 use Rattle.index_snapshot.specs.Entries.{entries_in}
 use Rattle.index_snapshot.specs.Publishing.{Print}
+use Rattle.vault_lists.specs.Items.{AreItems, brings_of, last_book, tells_in}
+use Rattle.vault_lists.specs.declared.item.Item.{Item}
 use Rattle.vault_turns.specs.History.{IsBegun, Names, is_told, told_book, told_limits}
-use Rattle.vault_turns.specs.Items.{AreItems, brings_of, last_book, tells_in}
-use Rattle.vault_turns.specs.declared.item.Item.{Item}
 use Rattle.vault_turns.specs.declared.noted.Noted.{Noted}
 
 -- the history, and what the archive holds

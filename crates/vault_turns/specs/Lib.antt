@@ -1,4 +1,3 @@
-pub mod Items
 pub mod Taking
 pub mod History
 pub mod Turns

@@ -1,13 +1,13 @@
 -- What a pass knows of the list that is published.
-use Rattle.std.specs.Prelude.{◌≡◌, Bool, true, IsTrue, List, ◌∷◌}
+use Rattle.std.specs.Prelude.{◌≡◌, Bool, IsTrue, List, ◌∷◌}
 use mathlib.Core.List.{IsPrefix}
 use Rattle.capture.specs.declared.book.Book.{Book}
 use Rattle.index_entry.specs.Facts.{Facts}
 use Rattle.index_entry.specs.OfBook.{AreEntries}
 use Rattle.index_snapshot.specs.Edges.{Edge}
+use Rattle.vault_lists.specs.Items.{book_in, last_from, tells_in}
+use Rattle.vault_lists.specs.declared.item.Item.{Item}
 use Rattle.vault_turns.specs.History.{Names, is_told, told_book}
-use Rattle.vault_turns.specs.Items.{AreItems, book_in, last_from, tells_in}
-use Rattle.vault_turns.specs.declared.item.Item.{Item}
 use Rattle.vault_turns.specs.declared.noted.Noted.{Noted}
 
 -- a beginning of the list has the book that the history tells
@@ -27,9 +27,3 @@ pub record IsListed (history : List Noted) (note : Edge Item) (whole : Bool) : T
   pub told : tells_in note.items ≡ is_told history
   pub book : IsTrue whole → HasBook history note.items
   pub entries : IsTrue (is_told history) → HasEntries (told_book history)
-
--- this list was seen, which may be published, and begins with all that is known of it
-pub record HasSeen (note : Edge Item) (whole : Bool) (items : List Item) : Type 0 where
-  pub all : whole ≡ true
-  pub begins : IsPrefix note.items items
-  pub fits : AreItems items

@@ -7,8 +7,8 @@ use Rattle.index_entry.specs.OfBook.{AreEntries, AreOf}
 use Rattle.index_entry.specs.Queries.{IsIndex, with_number}
 use Rattle.archive_core.specs.Holdings.{Holdings}
 use Rattle.archive_index.specs.Shown.{numbered}
-use Rattle.vault_turns.specs.Items.{book_in, brings_of}
-use Rattle.vault_turns.specs.declared.item.Item.{Item}
+use Rattle.vault_lists.specs.Items.{book_in, brings_of}
+use Rattle.vault_lists.specs.declared.item.Item.{Item}
 
 -- The item has the archive's book and the entry of a capture, if that is shown by date.
 pub record TakesItem {D : Type 0} (tells : Bool) (held : Holdings D) (number : ℕ) (item : Item) (place : Option Facts) : Type 0 where

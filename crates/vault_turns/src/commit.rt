@@ -12,7 +12,6 @@ ghost use Rattle.vault_turns.specs.History.{by_of, is_told, told_in};
 ghost use Rattle.archive_index.specs.Shown.{numbered};
 ghost use Rattle.vault_turns.specs.Turns.{Commits};
 
-use crate::item::Item;
 use crate::keeping::Keeping;
 use crate::noting::note_store;
 use crate::published::Published;
@@ -24,6 +23,7 @@ use disk_model::Disk;
 use index_snapshot::Note;
 use std::alloc::Global;
 use std::sync::Wait;
+use vault_lists::Item;
 
 /// A capture that is to be stored, whose payload was looked for before: as far as `looked` says, or not at all.
 pub struct Commit<'a, 't, R> {
@@ -42,7 +42,7 @@ impl<'a, 't, R: Wait, D: Disk> Act<D> for Commit<'a, 't, R> {
     ghost use Rattle.warc_text.specs.Fits.{Fits};
     ghost use Rattle.archive_core.specs.Looking.{IsDigestOf, IsRightOf};
     ghost use Rattle.vault_turns.specs.History.{Names, is_told, told_in};
-    ghost use Rattle.vault_turns.specs.Items.{shown_in};
+    ghost use Rattle.vault_lists.specs.Items.{shown_in};
     ghost use Rattle.vault_turns.specs.Turns.{Commits};
 
     type Answer = Result<Receipt, StoreFault>;

@@ -1,6 +1,5 @@
 //! The first turn of a store.
 use crate::commit::Commit;
-use crate::item::Item;
 use crate::published::Published;
 use crate::turning::Act;
 use archive_core::compared_payloads_serve_later;
@@ -11,6 +10,7 @@ use index_snapshot::Note;
 use message_body::Payload;
 use std::alloc::Global;
 use std::sync::Wait;
+use vault_lists::Item;
 
 /// What the first turn of a store answers.
 #[derive(Drop)]
@@ -38,7 +38,7 @@ pub struct FirstTurn<'a, 't, R> {
 impl<'a, 't, R: Wait, D: Disk> Act<D> for FirstTurn<'a, 't, R> {
     ghost use Rattle.vault_turns.specs.FirstTurns.{Begins, IsReady};
     ghost use Rattle.vault_turns.specs.History.{Names};
-    ghost use Rattle.vault_turns.specs.Items.{shown_in};
+    ghost use Rattle.vault_lists.specs.Items.{shown_in};
 
     type Answer = FirstAnswer;
 

@@ -3,10 +3,9 @@ ghost use Rattle.std.specs.Prelude.{◌≡◌, ◌<◌, suc, IfNone, IfOk, IfSom
 ghost use Rattle.capture.specs.Captures.{captures};
 ghost use Rattle.index_entry.specs.Facts.{Facts};
 ghost use Rattle.archive_index.specs.Shown.{numbered};
-ghost use Rattle.vault_turns.specs.Items.{book_in, brings_of};
+ghost use Rattle.vault_lists.specs.Items.{book_in, brings_of};
 ghost use Rattle.vault_turns.specs.Taking.{HasBelow, IsGathered, TakesItem};
 
-use crate::item::{Entries, Item};
 use archive_core::Archive;
 use capture::Memory;
 use cdxj_index::{Index, SharedEntry};
@@ -15,6 +14,7 @@ use index_snapshot::Place;
 use shown::Shown;
 use std::alloc::Global;
 use std::snapshot::Snapshot;
+use vault_lists::{Entries, Item};
 
 /// Whether it is told what the book of the archive has, which clauses alone know.
 pub(crate) fn tells<D: Disk>(archive: &Archive<D>) -> Shown<bool>

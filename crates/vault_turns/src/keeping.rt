@@ -12,7 +12,6 @@ ghost use Rattle.vault_turns.specs.Own.{AreCounted};
 ghost use Rattle.vault_turns.specs.Taking.{TakesItem};
 
 use crate::gathering::{item_of, tells};
-use crate::item::Item;
 use crate::noted::{Kind, Noted, Sure};
 use crate::noting::note;
 use archive_core::Archive;
@@ -23,6 +22,7 @@ use shown::Shown;
 use std::alloc::Global;
 use std::marker::Model;
 use std::snapshot::Snapshot;
+use vault_lists::Item;
 
 /// An archive, and the history of what was done with it, which takes no bytes but its length. A clause sees both.
 #[derive(Drop)]

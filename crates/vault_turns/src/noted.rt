@@ -1,11 +1,11 @@
 //! The entries of a vault's history, of which only clauses know.
-use crate::item::Item;
 use archive_core::StoodTexts;
 use archive_volumes::Held;
 use capture::{Limits, Taken};
 use index_snapshot::Note;
 use shown::Shown;
 use std::snapshot::Snapshot;
+use vault_lists::Item;
 
 /// What a proof is sure of that a crash leaves of an archive. Only clauses know of one: it is shown, and never made.
 #[derive(Drop)]

@@ -10,18 +10,16 @@ ghost use Rattle.archive_index.specs.Shown.{numbered};
 ghost use Rattle.history_lock.specs.Seen.{Adds};
 ghost use Rattle.index_snapshot.specs.Entries.{entries_in};
 ghost use Rattle.index_snapshot.specs.Publishing.{edge_of, full_of};
+ghost use Rattle.vault_lists.specs.Items.{AreItems, brings_of, last_book, shown_in, tells_in};
 ghost use Rattle.vault_turns.specs.Calm.{HasRightCheckpoints, IsCalm, StaysCalm, StaysRight, StaysStood, StillStands};
 ghost use Rattle.vault_turns.specs.Guarded.{AreShown, Stands};
 ghost use Rattle.vault_turns.specs.History.{IsOpening, Names, by_of, given_faults, is_told, sure_in, told_book, told_in};
-ghost use Rattle.vault_turns.specs.Items.{AreItems, brings_of, last_book, shown_in, tells_in};
 ghost use Rattle.vault_turns.specs.Listing.{IsListed};
 ghost use Rattle.vault_turns.specs.Own.{AreCounted};
 ghost use Rattle.vault_turns.specs.Turns.{BringsIt, Commits, Compares, GivesIt, changes};
 
 use crate::gathering::{first_item, gathered};
-use crate::item::{Books, Item};
 use crate::keeping::Keeping;
-use crate::listed::Listed;
 use crate::noted::{Noted, Sure};
 use archive_core::Archive;
 use archive_shelf::{BringFault, Looked, Receipt, StoreFault};
@@ -33,6 +31,7 @@ use shown::Shown;
 use std::alloc::Global;
 use std::marker::Model;
 use std::sync::Wait;
+use vault_lists::{Books, Item, Listed};
 
 /// An archive with its history, and the publisher of its books. It isn't `Drop`, since a publisher isn't.
 pub struct Published<D: Disk> {

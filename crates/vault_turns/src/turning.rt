@@ -1,15 +1,15 @@
 //! What a pass does in its turn, and what is told of the list behind it.
-use crate::listed::Listed;
 use crate::published::Published;
 use disk_model::Disk;
 use history_lock::Work;
+use vault_lists::Listed;
 
 /// What a pass does in its turn with what lies behind the lock.
 pub trait Act<D: Disk> {
     ghost use Rattle.std.specs.Prelude.{Bool, List};
     ghost use Rattle.index_entry.specs.Facts.{Facts};
     ghost use Rattle.index_snapshot.specs.Entries.{entries_in};
-    ghost use Rattle.vault_turns.specs.Items.{brings_of};
+    ghost use Rattle.vault_lists.specs.Items.{brings_of};
     ghost use Rattle.history_lock.specs.Seen.{Adds};
     ghost use Rattle.vault_turns.specs.History.{by_of, is_told};
     ghost use Rattle.vault_turns.specs.declared.noted.Noted.{Noted};
@@ -37,7 +37,7 @@ pub struct Telling<A> {
 impl<D: Disk, A: Act<D>> Work<Published<D>> for Telling<A> {
     ghost use Rattle.std.specs.Prelude.{◌++◌};
     ghost use Rattle.index_snapshot.specs.Entries.{entries_in};
-    ghost use Rattle.vault_turns.specs.Items.{brings_of};
+    ghost use Rattle.vault_lists.specs.Items.{brings_of};
     ghost use Rattle.vault_turns.specs.History.{is_told};
     ghost use Rattle.vault_turns.specs.Listing.{IsListed};
 

@@ -1,7 +1,7 @@
 -- The pass's history names both lists.
 use Rattle.std.proofs.Common.{ap, ◌∙◌}
 use Rattle.index_snapshot.specs.Edges.{Edge}
-use Rattle.vault_turns.specs.declared.item.Item.{Item}
+use Rattle.vault_lists.specs.declared.item.Item.{Item}
 use Rattle.vault_turns.proofs.SeenLaws.{names_one}
 use Rattle.vault.proofs.pass.VaultPass.shows_all.Goals as goal
 

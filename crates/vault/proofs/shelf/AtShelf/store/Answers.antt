@@ -1,6 +1,6 @@
 use Rattle.std.proofs.Common.{false, subst}
 use Rattle.archive_shelf.specs.Told.{StoresOn}
-use Rattle.vault_turns.specs.Items.{shown_in}
+use Rattle.vault_lists.specs.Items.{shown_in}
 use Rattle.vault.specs.Company.{Passing, told_at}
 use Rattle.vault.proofs.MemberLaws.{at_shows, at_stores, member_stored}
 use Rattle.vault.proofs.shelf.AtShelf.store.Goals as goal

@@ -4,8 +4,8 @@ use Rattle.std.specs.Prelude.{Result}
 use Rattle.archive_shelf.specs.declared.fault.BringFault.{BringFault}
 use Rattle.capture.specs.declared.captured.Brought.{Brought}
 use Rattle.history_lock.specs.Seen.{Turn}
+use Rattle.vault_lists.specs.Items.{shown_in}
 use Rattle.vault_turns.specs.History.{by_of, is_told}
-use Rattle.vault_turns.specs.Items.{shown_in}
 use Rattle.vault_turns.specs.Turns.{BringsIt}
 use Rattle.vault_turns.proofs.SeenLaws.{names_one, prefix_if}
 use Rattle.vault.proofs.BringLaws.{turn_brings, turn_held}

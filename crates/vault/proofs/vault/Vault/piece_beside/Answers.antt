@@ -3,8 +3,8 @@ use Rattle.std.proofs.Common.{sym, subst}
 use Rattle.std.specs.Prelude.{List, Result, ℕ}
 use Rattle.archive_shelf.specs.declared.fault.BringFault.{BringFault}
 use Rattle.history_lock.specs.Seen.{Turn}
+use Rattle.vault_lists.specs.Items.{shown_in}
 use Rattle.vault_turns.specs.History.{by_of, is_told}
-use Rattle.vault_turns.specs.Items.{shown_in}
 use Rattle.vault_turns.specs.Turns.{GivesIt}
 use Rattle.vault_turns.proofs.SeenLaws.{names_one, prefix_if}
 use Rattle.vault.proofs.BringLaws.{piece_held, turn_gives}

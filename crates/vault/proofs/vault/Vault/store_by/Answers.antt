@@ -3,9 +3,9 @@ use Rattle.std.proofs.Common.{ℕ, Bool, List, sym, ap, subst, ◌∙◌}
 use Rattle.sha1.specs.Sha1.{sha1}
 use Rattle.archive_core.specs.Looking.{IsDigestOf, IsRightOf}
 use Rattle.history_lock.specs.Seen.{Turn}
+use Rattle.vault_lists.specs.Items.{shown_in}
 use Rattle.vault_turns.specs.FirstTurns.{Begins}
 use Rattle.vault_turns.specs.History.{by_of, is_told, told_in}
-use Rattle.vault_turns.specs.Items.{shown_in}
 use Rattle.vault_turns.specs.Turns.{Commits}
 use Rattle.vault_turns.specs.declared.first_turn.FirstAnswer.{FirstAnswer}
 use Rattle.vault_turns.proofs.PublishLaws.{names_begun}

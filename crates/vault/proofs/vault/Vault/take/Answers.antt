@@ -1,5 +1,5 @@
 use Rattle.index_snapshot.specs.Entries.{entries_in}
-use Rattle.vault_turns.specs.Items.{brings_of}
+use Rattle.vault_lists.specs.Items.{brings_of}
 use Rattle.vault_turns.proofs.TellingLaws.{turn_keeps, turn_listed, turn_names, turn_told}
 use Rattle.vault.proofs.vault.Vault.take.Goals as goal
 

@@ -2,9 +2,9 @@
 use Rattle.std.proofs.Common.{sym, subst}
 use Rattle.archive_index.specs.Shown.{numbered}
 use Rattle.history_lock.specs.Seen.{Adds}
+use Rattle.vault_lists.specs.Items.{shown_in}
 use Rattle.vault_turns.specs.Guarded.{Guarded}
 use Rattle.vault_turns.specs.History.{by_of, is_told}
-use Rattle.vault_turns.specs.Items.{shown_in}
 use Rattle.vault_turns.specs.Turns.{Commits}
 use Rattle.vault_turns.proofs.CommitLaws.{commits_fewer}
 use Rattle.vault_turns.proofs.commit.CommitAct.act.Goals as goal

@@ -4,8 +4,8 @@ use Rattle.sha1.specs.Sha1.{sha1}
 use Rattle.archive_shelf.specs.declared.fault.StoreFault.{StoreFault}
 use Rattle.archive_shelf.specs.declared.looked.Looked.{Looked}
 use Rattle.history_lock.specs.Seen.{Adds}
+use Rattle.vault_lists.specs.Items.{shown_in}
 use Rattle.vault_turns.specs.History.{Names, by_of, is_told}
-use Rattle.vault_turns.specs.Items.{shown_in}
 use Rattle.vault_turns.specs.Turns.{Compares}
 use Rattle.vault_turns.specs.declared.noted.Noted.{Noted}
 use Rattle.vault_turns.proofs.FirstLaws.{commits_at_once, of_payload, refuses_at_once, right_at_once, still_there}

@@ -4,10 +4,10 @@ use Rattle.archive_core.specs.Holdings.{Holdings}
 use Rattle.archive_shelf.specs.declared.counts.Counts.{Counts}
 use Rattle.index_snapshot.specs.Edges.{Edge}
 use Rattle.index_snapshot.specs.Entries.{entries_in}
+use Rattle.vault_lists.specs.Items.{brings_of}
+use Rattle.vault_lists.specs.declared.item.Item.{Item}
 use Rattle.vault_turns.specs.Guarded.{AreShown}
 use Rattle.vault_turns.specs.History.{Names, is_told}
-use Rattle.vault_turns.specs.Items.{brings_of}
-use Rattle.vault_turns.specs.declared.item.Item.{Item}
 use Rattle.vault_turns.proofs.PublishLaws.{first_publishes}
 use Rattle.vault_turns.proofs.published.Published.begin.Goals as goal
 

@@ -2,10 +2,10 @@ use Rattle.std.proofs.Common.{List, sym, ap, subst, ◌∙◌}
 use Rattle.std.specs.Prelude.{Contains}
 use Rattle.index_snapshot.specs.Edges.{Edge}
 use Rattle.index_snapshot.specs.Entries.{entries_in}
+use Rattle.vault_lists.specs.Items.{brings_of, shown_in}
+use Rattle.vault_lists.specs.declared.item.Item.{Item}
 use Rattle.vault_turns.specs.Guarded.{AreShown, Publication}
 use Rattle.vault_turns.specs.History.{Names}
-use Rattle.vault_turns.specs.Items.{brings_of, shown_in}
-use Rattle.vault_turns.specs.declared.item.Item.{Item}
 use Rattle.vault_turns.proofs.SeenLaws.{names_one, prefix_if, shown_there}
 use Rattle.vault_turns.proofs.published.Published.has_shown.Goals as goal
 

@@ -1,11 +1,11 @@
 use Rattle.std.proofs.Common.{subst}
 use Rattle.history_lock.specs.Seen.{Adds}
+use Rattle.vault_lists.specs.Items.{brings_of}
 use Rattle.vault_turns.specs.Guarded.{Publication}
 use Rattle.vault_turns.specs.History.{by_of, is_told}
 use Rattle.vault_turns.specs.Turns.{GivesIt}
 use Rattle.archive_index.specs.Shown.{numbered}
 use Rattle.index_snapshot.specs.Entries.{entries_in}
-use Rattle.vault_turns.specs.Items.{brings_of}
 use Rattle.vault_turns.proofs.ReadLaws.{adds_given}
 use Rattle.vault_turns.proofs.PublishLaws.{fault_added, publishes_same}
 use Rattle.vault_turns.proofs.published.Published.piece.Goals as goal

@@ -3,9 +3,9 @@ use Rattle.std.proofs.Common.{sym, subst}
 use Rattle.history_lock.specs.Seen.{Adds}
 use Rattle.index_snapshot.specs.Edges.{Edge}
 use Rattle.index_snapshot.specs.Entries.{entries_in}
+use Rattle.vault_lists.specs.Items.{brings_of}
+use Rattle.vault_lists.specs.declared.item.Item.{Item}
 use Rattle.vault_turns.specs.History.{by_of, is_told}
-use Rattle.vault_turns.specs.Items.{brings_of}
-use Rattle.vault_turns.specs.declared.item.Item.{Item}
 use Rattle.vault_turns.proofs.TellingLaws.{adds_listed}
 use Rattle.vault_turns.proofs.turning.TellingWorkPublished.act.Goals as goal
 

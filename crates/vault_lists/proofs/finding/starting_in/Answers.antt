@@ -3,10 +3,10 @@ use Rattle.std.specs.Prelude.{nat_eq}
 use Rattle.std.specs.List.{starts_with}
 use Rattle.index_snapshot.specs.Edges.{Edge}
 use Rattle.archive_shelf.specs.Queries.{ArePicked}
-use Rattle.vault_turns.specs.Items.{shown_in}
-use Rattle.vault_turns.specs.declared.item.Item.{Item}
-use Rattle.vault.proofs.ShowingLaws.{if_ok, picked_shown}
-use Rattle.vault.proofs.finding.starting_in.Goals as goal
+use Rattle.vault_lists.specs.Items.{shown_in}
+use Rattle.vault_lists.specs.declared.item.Item.{Item}
+use Rattle.vault_lists.proofs.FindingLaws.{if_ok, picked_shown}
+use Rattle.vault_lists.proofs.finding.starting_in.Goals as goal
 
 pub returns-in-Ok-starting-clause-found : goal.returns-in-Ok-starting-clause-found
 returns-in-Ok-starting-clause-found c =

@@ -2,10 +2,10 @@ use Rattle.std.proofs.Common.{sym, subst, ◌∙◌}
 use Rattle.std.specs.Prelude.{bytes_eq}
 use Rattle.index_snapshot.specs.Edges.{Edge}
 use Rattle.archive_shelf.specs.Queries.{ArePicked}
-use Rattle.vault_turns.specs.Items.{shown_in}
-use Rattle.vault_turns.specs.declared.item.Item.{Item}
-use Rattle.vault.proofs.ShowingLaws.{if_ok, picked_shown}
-use Rattle.vault.proofs.finding.with_key_in.Goals as goal
+use Rattle.vault_lists.specs.Items.{shown_in}
+use Rattle.vault_lists.specs.declared.item.Item.{Item}
+use Rattle.vault_lists.proofs.FindingLaws.{if_ok, picked_shown}
+use Rattle.vault_lists.proofs.finding.with_key_in.Goals as goal
 
 pub returns-in-Ok-with_key-clause-found : goal.returns-in-Ok-with_key-clause-found
 returns-in-Ok-with_key-clause-found c =

@@ -1,7 +1,7 @@
 use Rattle.std.proofs.Common.{ap}
 use Rattle.index_entry.specs.Facts.{Facts}
-use Rattle.vault.proofs.ShowingLaws.{found_number, if_ok}
-use Rattle.vault.proofs.finding.nearest_by.Goals as goal
+use Rattle.vault_lists.proofs.FindingLaws.{found_number, if_ok}
+use Rattle.vault_lists.proofs.finding.nearest_by.Goals as goal
 
 pub returns-in-Some : goal.returns-in-Some
 returns-in-Some g c =

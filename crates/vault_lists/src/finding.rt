@@ -3,10 +3,11 @@ ghost use mathlib.Core.List.{IsPrefix};
 ghost use Rattle.std.specs.Prelude.{◌≡◌, ◌<◌, ◌++◌, ◌∷◌, [], true, Contains, IfOk, MatchResult, OnOk};
 ghost use Rattle.index_entry.specs.Queries.{IsIndex, of_key, starting_with};
 ghost use Rattle.archive_shelf.specs.Queries.{IsFound};
-ghost use Rattle.vault.specs.Finding.{AreOfKey, AreStarting};
-ghost use Rattle.vault_turns.specs.Items.{shown_in};
-ghost use Rattle.vault_turns.specs.Listing.{HasSeen};
+ghost use Rattle.vault_lists.specs.Finding.{AreOfKey, AreStarting, HasSeen};
+ghost use Rattle.vault_lists.specs.Items.{shown_in};
 
+use crate::item::{Books, Item};
+use crate::listed::Listed;
 use capture::{Memory, growth_keeps_captures};
 use cdxj_index::{Index, SharedEntry, Steps};
 use core::mem::replace_with;
@@ -16,9 +17,8 @@ use std::alloc::Global;
 use std::marker::Brand;
 use std::sync::ledger::{Blank, Ledger};
 use surt_key::Key;
-use vault_turns::{Books, Item, Listed};
 
-/// The list as it is shown, if it begins with all that the pass knows of it; else the viewer, which has seen it.
+/// The list as it is shown, if it begins with all that is known of it; else the viewer, which has seen it.
 fn enter(
     viewer: Viewer<Item, Books>,
     listed: &Listed,
@@ -206,8 +206,9 @@ fn starting_in(
     }
 }
 
-/// The same in place.
-pub(crate) fn find_nearest(
+/// The entry of a key that is nearest to a time (RFC 7089, section 4.1.1), of the list as it is shown. `Memory` too where that doesn't begin with all
+/// that is known of it. Waits for nobody.
+pub fn find_nearest(
     viewer: &mut Viewer<Item, Books>,
     listed: &Listed,
     key: &Key,
@@ -224,8 +225,8 @@ pub(crate) fn find_nearest(
     })
 }
 
-/// The same in place.
-pub(crate) fn find_key(
+/// The entries of a key, in order of date and number, likewise.
+pub fn find_key(
     alloc: Global,
     viewer: &mut Viewer<Item, Books>,
     listed: &Listed,
@@ -242,8 +243,8 @@ pub(crate) fn find_key(
     })
 }
 
-/// The same in place.
-pub(crate) fn find_starting(
+/// The entries whose key begins with these bytes, in order of key, date and number, likewise.
+pub fn find_starting(
     alloc: Global,
     viewer: &mut Viewer<Item, Books>,
     listed: &Listed,

@@ -27,7 +27,7 @@ pub struct Item {
 pub struct Books;
 
 impl Brings<Item> for Books {
-    ghost use Rattle.vault_turns.specs.Items.{AreItems, brings_of};
+    ghost use Rattle.vault_lists.specs.Items.{AreItems, brings_of};
 
     ghost entries = { brings_of };
 

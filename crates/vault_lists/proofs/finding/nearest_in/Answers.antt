@@ -3,10 +3,10 @@ use Rattle.std.specs.Prelude.{Option}
 use Rattle.index_entry.specs.Facts.{Facts}
 use Rattle.archive_shelf.specs.Queries.{IsFound}
 use Rattle.index_snapshot.specs.Edges.{Edge}
-use Rattle.vault_turns.specs.Items.{shown_in}
-use Rattle.vault_turns.specs.declared.item.Item.{Item}
-use Rattle.vault.proofs.ShowingLaws.{found_shown, if_ok}
-use Rattle.vault.proofs.finding.nearest_in.Goals as goal
+use Rattle.vault_lists.specs.Items.{shown_in}
+use Rattle.vault_lists.specs.declared.item.Item.{Item}
+use Rattle.vault_lists.proofs.FindingLaws.{found_shown, if_ok}
+use Rattle.vault_lists.proofs.finding.nearest_in.Goals as goal
 
 pub returns-in-Ok-nearest-clause-found : goal.returns-in-Ok-nearest-clause-found
 returns-in-Ok-nearest-clause-found c =

@@ -1,6 +1,6 @@
 use Rattle.std.specs.Prelude.{bytes_eq}
-use Rattle.vault.proofs.ShowingLaws.{there_of}
-use Rattle.vault.proofs.finding.with_key.Goals as goal
+use Rattle.vault_lists.proofs.FindingLaws.{there_of}
+use Rattle.vault_lists.proofs.finding.with_key.Goals as goal
 
 pub take-requires-clause-there : goal.take-requires-clause-there
 take-requires-clause-there c =

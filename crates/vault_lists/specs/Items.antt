@@ -11,9 +11,9 @@ use Rattle.archive_shelf.specs.Storing.{empty_book}
 use Rattle.archive_volumes.specs.Held.{book_of}
 use Rattle.archive_index.specs.Shown.{numbered}
 use Rattle.index_snapshot.specs.Entries.{entries_in}
-use Rattle.vault_turns.specs.declared.item.Entries.{Entries}
-use Rattle.vault_turns.specs.declared.item.Entries.TheVariants.{Many, One}
-use Rattle.vault_turns.specs.declared.item.Item.{Item}
+use Rattle.vault_lists.specs.declared.item.Entries.{Entries}
+use Rattle.vault_lists.specs.declared.item.Entries.TheVariants.{Many, One}
+use Rattle.vault_lists.specs.declared.item.Item.{Item}
 
 -- the book of an item
 abbrev pub book_in : Item → Book

@@ -18,8 +18,8 @@ use Rattle.index_entry.proofs.Members.{Among, Among-append, Among-append_left, A
 use Rattle.archive_index.specs.Shown.{numbered}
 use Rattle.archive_index.proofs.ShownLaws.{numbered_sorted, shown_all, shown_from}
 use Rattle.index_snapshot.specs.Entries.{entries_in}
-use Rattle.vault_turns.specs.Items.{AreItems, GoBehind, book_in, brings_of, last_book, last_from, shown_in, tells_in}
-use Rattle.vault_turns.specs.declared.item.Item.{Item}
+use Rattle.vault_lists.specs.Items.{AreItems, GoBehind, book_in, brings_of, last_book, last_from, shown_in, tells_in}
+use Rattle.vault_lists.specs.declared.item.Item.{Item}
 
 -- ---- what an entry of a list is
 

@@ -1,8 +1,8 @@
 use Rattle.std.proofs.Common.{◌≡◌, ◌∷◌, [], ◌++◌, Some, None, ap, sym, ◌∙◌}
 use Rattle.std.proofs.lemmas.Option.{same_Some}
 use Rattle.index_entry.specs.Facts.{Facts}
-use Rattle.vault.proofs.ShowingLaws.{by_its_number}
-use Rattle.vault.proofs.finding.take.Goals as goal
+use Rattle.vault_lists.proofs.FindingLaws.{by_its_number}
+use Rattle.vault_lists.proofs.finding.take.Goals as goal
 
 pub unreachable-requires : goal.unreachable-requires
 unreachable-requires c =

@@ -1,7 +1,7 @@
 use Rattle.std.specs.Prelude.{nat_eq}
 use Rattle.std.specs.List.{starts_with}
-use Rattle.vault.proofs.ShowingLaws.{there_of}
-use Rattle.vault.proofs.finding.starting.Goals as goal
+use Rattle.vault_lists.proofs.FindingLaws.{there_of}
+use Rattle.vault_lists.proofs.finding.starting.Goals as goal
 
 pub take-requires-clause-there : goal.take-requires-clause-there
 take-requires-clause-there c =
