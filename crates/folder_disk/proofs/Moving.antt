@@ -15,6 +15,7 @@ use Rattle.folder_disk.specs.contracts.folder_disk.FolderDisk as disk
 use Rattle.folder_disk.specs.contracts.folder_disk.FolderDisk.TheInside as inside
 use Rattle.folder_disk.specs.contracts.reading.Reading as reading
 use Rattle.folder_disk.specs.contracts.reader.FolderReader as reader
+use Rattle.folder_disk.specs.contracts.reader.FolderReader.TheInside as reader_inside
 
 -- a fact for each variant's fields
 standing_send : (S N F T P : RattleType) → IsSend F → IsSend T → IsSend (standing.the_row S N F T P)
@@ -54,5 +55,18 @@ reading_send F N T P f t =
       ),
     )
 
-pub reader_send : (S N F T P : RattleType) → IsSend S → IsSend F → IsSend T → IsSend (reader.the_row S N F T P)
-reader_send S N F T P s f t = let w = reading_send F N T P f t in search (sendable, crosses) depth 40
+reader_inside_send : (S N F T P : RattleType) (w : Places S.Denot F.Denot T.Denot) (g : Folders F.Denot T.Denot) (n : Names N.Denot P.Denot) (p : Displays P.Denot) →
+    IsSend S → IsSend F → IsSend T → IsSend (reader_inside.the_row S N F T P w g n p)
+reader_inside_send S N F T P w g n p s f t =
+    let r = reading_send F N T P f t in
+    declared_send (reader_inside.the_type S N F T P w g n p) (
+      as_row_send (row_field S) s,
+      (
+        search (sendable, crosses) depth 20,
+        (search sendable depth 20, tt),
+      ),
+    )
+
+pub reader_send : (S N F T P : RattleType) (w : Places S.Denot F.Denot T.Denot) (g : Folders F.Denot T.Denot) (n : Names N.Denot P.Denot) (p : Displays P.Denot) →
+    IsSend S → IsSend F → IsSend T → IsSend (reader.the_row S N F T P w g n p)
+reader_send S N F T P w g n p s f t = let i = reader_inside_send S N F T P w g n p s f t in search (sendable, crosses) depth 20

@@ -3,3 +3,4 @@ pub mod BegunLaws
 pub mod FoundLaws
 pub mod GapLaws
 pub mod NameLaws
+pub mod ReaderLaws

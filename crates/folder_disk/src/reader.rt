@@ -1,7 +1,9 @@
 //! A disk of numbered files in the folder `archive`, to be read alone.
-ghost use Rattle.std.specs.Prelude.{◌≡◌, false, IsTrue, IfOk};
-ghost use Rattle.disk_model.specs.Image.{no_files};
-ghost use Rattle.folder_disk.specs.Reader.{past_in, past_read};
+ghost use Rattle.std.specs.Prelude.{◌≡◌, ◌<◌, Some, IsTrue, IsErr, IfOk, IfSome, OnOk, length, take, drop};
+ghost use Rattle.capture.specs.Faults.{CountsFaults};
+ghost use Rattle.disk_model.specs.Image.{file_count, file_of};
+ghost use Rattle.folder_disk.specs.Reader.{place_of, past_read, reading_in, images_in, AreOpenToRead, IsReadFrom, StaysRead};
+ghost use Rattle.folder_disk.specs.steps.ReaderLaws.{reading_is_read, no_more_read};
 
 use crate::archive_names::FOLDER;
 use crate::beginning::check_missing;
@@ -14,10 +16,12 @@ use disk_model::{Disk, Kind};
 use folder_files::{FileNames, unknown};
 use folder_model::{Folder, Folders, Lock};
 use std::alloc::Global;
+use std::fmt::Display;
 use std::io;
+use std::marker::Model;
 
-/// A disk in the folder `archive` of a process that only reads, beside others that do. It makes, writes and syncs nothing, and
-/// doesn't tell what its files hold. The cause of each fault is told.
+/// A disk in the folder `archive` of a process that only reads, beside others that do. It makes, writes and syncs nothing. It
+/// tells what its files hold where the folder tells what was done in it. The cause of each fault is told.
 #[derive(Drop)]
 pub struct FolderReader<S: Folders, N: FileNames> {
     system: S,
@@ -26,14 +30,28 @@ pub struct FolderReader<S: Folders, N: FileNames> {
     faults: u64,
 }
 
+impl<S: Folders, N: FileNames> Model for FolderReader<S, N> {
+    ghost use Rattle.std.specs.Prelude.{IsTrue, IfSome};
+    ghost use Rattle.folder_disk.specs.Reader.{KeptToRead, place_of, AreOpenToRead};
+
+    ghost Value = { KeptToRead S.Folder };
+
+    ghost view = { λ d. record { place = place_of d.folder; faults = d.faults } };
+
+    ghost invariant = { λ d. IsTrue S.Folder.tells → IfSome d.folder (AreOpenToRead N.name S.Folder.name_of S.Folder.past) };
+}
+
 impl<S: Folders, N: FileNames> FolderReader<S, N> {
-    /// The disk in that folder of the folder where the program runs, in which nobody writes as long as the disk is there.
+    /// The disk in that folder of the folder where the program runs, in which nobody writes as long as the disk is there. It has
+    /// all volumes, and the checkpoints before the first that isn't found.
     pub fn open(system: S, alloc: Global) -> Result<FolderReader<S, N>, Unopened<S>>
     where
         S::Folder: Drop,
         ensures faults { IfOk result (λ disk. disk.faults ≡ 0) }
         ensures found { IsTrue S.Folder.tells → IsTrue (S.alone system) → IfOk result
-            (λ disk. past_read S.Folder.past disk ≡ S.found system) }
+            (λ disk. past_read S.Folder.past disk.place ≡ S.found system) }
+        ensures read { IsTrue S.Folder.tells → IfOk result
+            (λ disk. IsReadFrom N.name (past_read S.Folder.past disk.place) (reading_in N.name S.Folder.past disk.place)) }
     {
         let mut system = system;
         match find(&mut system, alloc) {
@@ -48,10 +66,12 @@ impl<S: Folders, N: FileNames> FolderReader<S, N> {
 }
 
 /// How many files of a kind a folder has.
-fn count<F: Folder, N: FileNames>(
-    folder: &mut Option<Reading<F, N>>,
-    kind: Kind,
-) -> io::Result<u32> {
+fn count<F: Folder, N: FileNames>(folder: &mut Option<Reading<F, N>>, kind: Kind) -> io::Result<u32>
+    requires { IsTrue F.tells → IfSome folder.old (AreOpenToRead N.name F.name_of F.past) }
+    ensures count { IfOk result (λ count. count ≡ file_count (reading_in N.name F.past (place_of folder.old)) kind) }
+    ensures stays { StaysRead F.tells N.name F.past (place_of folder.old) (place_of folder.new) }
+    ensures open { IsTrue F.tells → IfSome folder.new (AreOpenToRead N.name F.name_of F.past) }
+{
     match folder {
         Some(folder) => folder.files(kind),
         None => Ok(0),
@@ -63,7 +83,13 @@ fn length<F: Folder, N: FileNames>(
     folder: &mut Option<Reading<F, N>>,
     kind: Kind,
     file: u32,
-) -> io::Result<u64> {
+) -> io::Result<u64>
+    requires open { IsTrue F.tells → IfSome folder.old (AreOpenToRead N.name F.name_of F.past) }
+    requires there { IsTrue F.tells → file < file_count (reading_in N.name F.past (place_of folder.old)) kind }
+    ensures length { IsTrue F.tells → IfOk result (λ len. len ≡ length (file_of (reading_in N.name F.past (place_of folder.old)) kind file)) }
+    ensures stays { StaysRead F.tells N.name F.past (place_of folder.old) (place_of folder.new) }
+    ensures open { IsTrue F.tells → IfSome folder.new (AreOpenToRead N.name F.name_of F.past) }
+{
     match folder {
         Some(folder) => folder.len(kind, file),
         None => Err(unknown()),
@@ -77,7 +103,14 @@ fn fill<F: Folder, N: FileNames>(
     file: u32,
     at: u64,
     into: &mut [u8],
-) -> io::Result<()> {
+) -> io::Result<()>
+    requires open { IsTrue F.tells → IfSome folder.old (AreOpenToRead N.name F.name_of F.past) }
+    requires there { IsTrue F.tells → file < file_count (reading_in N.name F.past (place_of folder.old)) kind }
+    ensures bytes { IsTrue F.tells → OnOk result
+        (into.new ≡ take (length into.old) (drop at (file_of (reading_in N.name F.past (place_of folder.old)) kind file))) }
+    ensures stays { StaysRead F.tells N.name F.past (place_of folder.old) (place_of folder.new) }
+    ensures open { IsTrue F.tells → IfSome folder.new (AreOpenToRead N.name F.name_of F.past) }
+{
     match folder {
         Some(folder) => folder.read(kind, file, at, into),
         None => Err(unknown()),
@@ -89,7 +122,12 @@ fn check<F: Folder, N: FileNames>(
     folder: &mut Option<Reading<F, N>>,
     kind: Kind,
     file: u32,
-) -> io::Result<()> {
+) -> io::Result<()>
+    requires open { IsTrue F.tells → IfSome folder.old (AreOpenToRead N.name F.name_of F.past) }
+    requires there { IsTrue F.tells → file < file_count (reading_in N.name F.past (place_of folder.old)) kind }
+    ensures stays { StaysRead F.tells N.name F.past (place_of folder.old) (place_of folder.new) }
+    ensures open { IsTrue F.tells → IfSome folder.new (AreOpenToRead N.name F.name_of F.past) }
+{
     length(folder, kind, file)?;
     Ok(())
 }
@@ -100,8 +138,11 @@ where
     S: Folders,
     S::Folder: Drop,
     N: FileNames,
-    ensures { IsTrue S.Folder.tells → IsTrue (S.alone system.old) → IfOk result
-        (λ folder. past_in S.Folder.past folder ≡ S.found system.old) }
+    ensures found { IsTrue S.Folder.tells → IsTrue (S.alone system.old) → IfOk result
+        (λ folder. past_read S.Folder.past (place_of folder) ≡ S.found system.old) }
+    ensures read { IsTrue S.Folder.tells → IfOk result
+        (λ folder. IsReadFrom N.name (past_read S.Folder.past (place_of folder)) (reading_in N.name S.Folder.past (place_of folder))) }
+    ensures open { IfOk result (λ folder. IfSome folder (AreOpenToRead N.name S.Folder.name_of S.Folder.past)) }
 {
     match system.hold(Lock::Shared) {
         Ok(folder) => Ok(Some(Reading::open(folder, alloc)?)),
@@ -112,18 +153,31 @@ where
     }
 }
 
+/// Refuses a call that makes or changes a file. It is told, and counted.
+fn refused<T, C: Causes, D: Display + Drop>(
+    faults: &mut u64,
+    causes: &mut C,
+    what: D,
+    call: &str,
+) -> Result<T, Failed>
+    ensures refused { IsErr result }
+    ensures counts { CountsFaults faults.old faults.new result }
+{
+    told(faults, causes, what, call, Err(only_read()))
+}
+
 impl<S: Folders + Causes, N: FileNames> Disk for FolderReader<S, N> {
-    ghost tells = { false };
+    ghost tells = { S.Folder.tells };
 
-    ghost reading = { λ _. no_files };
+    ghost reading = { λ d. reading_in N.name S.Folder.past d.place };
 
-    ghost images = { λ _ _. ⊥ };
+    ghost images = { λ d. images_in S.Folder.tells N.name S.Folder.past d.place };
 
-    ghost moment = { λ _. 0 };
+    ghost moment = { λ d. 0 };
 
-    ghost images_since = { λ _ _ _. ⊥ };
+    ghost images_since = { λ d t. images_in S.Folder.tells N.name S.Folder.past d.place };
 
-    ghost faults = { λ disk. disk.faults };
+    ghost faults = { λ d. d.faults };
 
     fn files(&mut self, kind: Kind) -> Result<u32, Failed> {
         let answer = count(&mut self.folder, kind);
@@ -137,13 +191,7 @@ impl<S: Folders + Causes, N: FileNames> Disk for FolderReader<S, N> {
     }
 
     fn create(&mut self, _kind: Kind) -> Result<u32, Failed> {
-        told(
-            &mut self.faults,
-            &mut self.system,
-            FOLDER,
-            "make a file",
-            Err(only_read()),
-        )
+        refused(&mut self.faults, &mut self.system, FOLDER, "make a file")
     }
 
     fn len(&mut self, kind: Kind, file: u32) -> Result<u64, Failed> {
@@ -169,22 +217,20 @@ impl<S: Folders + Causes, N: FileNames> Disk for FolderReader<S, N> {
     }
 
     fn write_at(&mut self, kind: Kind, file: u32, _at: u64, _bytes: &[u8]) -> Result<(), Failed> {
-        told(
+        refused(
             &mut self.faults,
             &mut self.system,
             N::path_of(kind, file),
             "write",
-            Err(only_read()),
         )
     }
 
     fn cut(&mut self, kind: Kind, file: u32, _len: u64) -> Result<(), Failed> {
-        told(
+        refused(
             &mut self.faults,
             &mut self.system,
             N::path_of(kind, file),
             "cut",
-            Err(only_read()),
         )
     }
 
@@ -204,13 +250,13 @@ impl<S: Folders + Causes, N: FileNames> Disk for FolderReader<S, N> {
         self.faults
     }
 
-    ghost reading_is_image = { λ disk tells. Prim.cc };
+    ghost reading_is_image = { λ d told. reading_is_read S.Folder.tells N.name S.Folder.past d.place told };
 
-    ghost no_more_files = { λ disk image kind there. absurd there };
+    ghost no_more_files = { λ d image kind there. no_more_read S.Folder.tells N.name S.Folder.past d.place image kind there };
 
-    ghost now_counts = { λ disk t image earlier there. absurd there };
+    ghost now_counts = { λ d t image le there. there };
 
-    ghost now_only = { λ disk image there. absurd there };
+    ghost now_only = { λ d image there. there };
 
-    ghost earlier = { λ disk t s image le there. absurd there };
+    ghost earlier = { λ d t s image le there. there };
 }
