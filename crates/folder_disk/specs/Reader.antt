@@ -55,6 +55,7 @@ images_in tells name past place image = IsTrue tells × (image ≡ reading_in na
 
 -- An image has all volumes of these contents, and of the checkpoints those of the first numbers.
 pub record IsReadIn (name : Kind → ℕ → List ℕ) (contents : Contents) (image : Image) : Type 0 where
+  pub few : file_count image Warc ≤ 2 ^ 32
   pub there : (kind : Kind) (file : ℕ) → file < file_count image kind → contents (name kind file) ≡ Some (file_of image kind file)
   pub no_more : (file : ℕ) → file_count image Warc ≤ file → file < 2 ^ 32 → contents (name Warc file) ≡ None
 

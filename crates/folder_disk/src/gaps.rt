@@ -54,6 +54,7 @@ pub(crate) fn count_to_read<F: Folder, N: FileNames>(
     ensures warc { IsTrue F.tells → IfOk result (λ counts. HasBelow N.name (F.past folder.new) Kind.Warc counts.warc) }
     ensures cdxj { IsTrue F.tells → IfOk result (λ counts. HasBelow N.name (F.past folder.new) Kind.Cdxj counts.cdxj) }
     ensures no_more { IsTrue F.tells → IfOk result (λ counts. HasNoMoreOf N.name (F.past folder.new) Kind.Warc counts.warc) }
+    ensures few { IfOk result (λ counts. counts.warc < 2 ^ 32) }
 {
     let looked = look::<F, N>(folder, alloc)?;
     Ok(Counts {

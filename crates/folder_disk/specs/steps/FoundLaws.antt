@@ -1,9 +1,10 @@
 -- Laws of a disk whose folder is found again.
-use Rattle.std.proofs.Common.{◌≡◌, ◌<◌, ◌≤◌, ◌^◌, ℕ, List, refl, sym, ◌∙◌, subst, inr, ⊎_elim, arith}
+use Rattle.std.proofs.Common.{◌≡◌, ◌<◌, ◌≤◌, ◌^◌, ℕ, List, refl, sym, ap, ◌∙◌, subst, inr, ⊎_elim, arith}
 use Rattle.std.proofs.lemmas.Bool.{cases_lt}
-use Rattle.std.proofs.lemmas.Option.{none-some}
+use Rattle.std.proofs.lemmas.Option.{none-some, same_Some}
 use Rattle.std.specs.Prelude.{Some, None}
 use Rattle.disk_model.specs.Image.{Image, no_files, files_of, file_count, file_of}
+use Rattle.disk_model.specs.steps.ImageLaws.{same_kind}
 use Rattle.disk_model.specs.declared.kind.Kind.{Kind}
 use Rattle.disk_model.specs.declared.kind.Kind.TheVariants.{Warc, Cdxj}
 use Rattle.folder_model.specs.Folder.{Contents, contents_of}
@@ -12,7 +13,8 @@ use Rattle.folder_model.specs.Seen.{IsSeen}
 use Rattle.folder_model.specs.steps.KnownLaws.{reading_is}
 use Rattle.folder_model.specs.steps.ReadingLaws.{each_is_seen}
 use Rattle.folder_disk.specs.Gaps.{IsGap, IsSeenFilled}
-use Rattle.folder_disk.specs.Laws.{CrashedIsImage, LetGoIsRead}
+use Rattle.folder_disk.specs.Laws.{CrashedIsImage, LetGoIsRead, CrashedVolumesAreRead, LetGoVolumesAreRead}
+use Rattle.folder_disk.specs.Reader.{IsReadIn}
 use Rattle.folder_files.specs.Counting.{known_of}
 use Rattle.held_folder.specs.State.{reading}
 
@@ -74,3 +76,48 @@ let_go_is_read name s image known filled =
     sym (reading_is name s.past (known_of s.warc s.cdxj) image seen known.knows.numbers
     (λ kind. omega (arith, known.knows.no_fewer kind, no_fewer_seen name _ image (reading name s) kind seen known.knows.is.seen))
     (λ kind. omega (arith, known.knows.one_more kind, no_fewer_seen name _ (reading name s) image kind known.knows.is.seen seen)))
+
+-- ---- a disk that only reads
+
+no_volume_less : (name : Kind → ℕ → List ℕ) (contents : Contents) (was image : Image) → IsSeen name contents was → IsReadIn name contents image
+    → file_count was Warc ≤ file_count image Warc
+no_volume_less name contents was image seen read =
+    ⊎_elim
+    (λ fewer. absurd (none-some (file_of was Warc (file_count image Warc))
+    (sym (read.no_more (file_count image Warc) (omega arith) (omega (arith, fewer, seen.few Warc))) ∙ seen.there Warc (file_count image Warc) fewer)))
+    (λ all. all)
+    (cases_lt (file_count image Warc) (file_count was Warc))
+
+no_volume_more : (name : Kind → ℕ → List ℕ) (contents : Contents) (was image : Image) → IsSeen name contents was → IsReadIn name contents image
+    → file_count image Warc ≤ file_count was Warc
+no_volume_more name contents was image seen read =
+    ⊎_elim
+    (λ more. absurd (none-some (file_of image Warc (file_count was Warc))
+    (sym (seen.no_more Warc (file_count was Warc) (omega arith) (omega (arith, more, read.few))) ∙ read.there Warc (file_count was Warc) more)))
+    (λ all. all)
+    (cases_lt (file_count was Warc) (file_count image Warc))
+
+-- it has all volumes of a folder that is seen as a disk
+volumes_are_read : (name : Kind → ℕ → List ℕ) (contents : Contents) (was image : Image) → IsSeen name contents was → IsReadIn name contents image
+    → files_of image Warc ≡ files_of was Warc
+volumes_are_read name contents was image seen read =
+    let less = no_volume_less name contents was image seen read in
+    let more = no_volume_more name contents was image seen read in
+    same_kind image was Warc (omega (arith, less, more))
+    (λ file inside. same_Some (file_of image Warc file) (file_of was Warc file) (sym (read.there Warc file inside) ∙ seen.there Warc file (omega (arith, inside, more))))
+
+pub crashed_volumes_are_read : CrashedVolumesAreRead
+crashed_volumes_are_read name s None image known (left, settled) is = (
+  no_files,
+  (refl, inr (known, (contents_found None, left, nothing_seen name))),
+  ap (λ (i : Image). files_of i Warc) is,
+)
+crashed_volumes_are_read name s (Some past) image known (left, settled) read =
+    let was = each_is_seen name s.past (reading name s) (contents_of past) known.knows.is left in (
+      was.0,
+      (refl, inr (known, (contents_found (Some past), left, was.1))),
+      volumes_are_read name (contents_of past) was.0 image was.1 read,
+    )
+
+pub let_go_volumes_are_read : LetGoVolumesAreRead
+let_go_volumes_are_read name s image known read = volumes_are_read name (contents_of s.past) (reading name s) image known.knows.is.seen read

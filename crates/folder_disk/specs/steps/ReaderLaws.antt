@@ -1,5 +1,5 @@
 -- Laws of a disk that only reads.
-use Rattle.std.proofs.Common.{◌≡◌, ◌≢◌, ◌<◌, ◌≤◌, ℕ, Bool, IsTrue, List, [], refl, sym, ap, ◌∙◌, subst, inl, true≢false, arith}
+use Rattle.std.proofs.Common.{◌≡◌, ◌≢◌, ◌<◌, ◌≤◌, ◌^◌, ℕ, Bool, IsTrue, List, [], refl, sym, ap, ◌∙◌, subst, inl, true≢false, arith}
 use Rattle.std.specs.Prelude.{Option, Some, None, Result, Ok, Err, OnOk, OnErr, IsErr, ⊤}
 use Rattle.std.specs.Option.{unwrap_or}
 use Rattle.disk_model.specs.Crash.{HasFile, Leaves, Elapses}
@@ -19,14 +19,15 @@ found_bytes None is = absurd (is refl)
 found_bytes (Some bytes) is = refl
 
 -- each file that was counted is in the image, and the folder has no other volume
-pub is_read_in : (name : Kind → ℕ → List ℕ) (past : FolderPast) (warc cdxj : ℕ) → HasBelow name past Warc warc → HasBelow name past Cdxj cdxj → HasNoMoreOf name past Warc warc
+pub is_read_in : (name : Kind → ℕ → List ℕ) (past : FolderPast) (warc cdxj : ℕ) → warc < 2 ^ 32 → HasBelow name past Warc warc → HasBelow name past Cdxj cdxj → HasNoMoreOf name past Warc warc
     → IsReadIn name (contents_of past) (image_of (λ kind file. contents_of past (name kind file)) (known_of warc cdxj))
-is_read_in name past warc cdxj volumes checkpoints no_more = record {
+is_read_in name past warc cdxj small volumes checkpoints no_more = record {
+  few = omega (arith, small, counted Warc);
   there = λ kind file inside.
       let below : file < known_of warc cdxj kind = omega (arith, inside, counted kind) in
       found_bytes (contents_of past (name kind file)) (has kind file below)
       ∙ ap (λ (b : List ℕ). Some b) (sym (image_of-file (λ k f. contents_of past (name k f)) (known_of warc cdxj) kind file below));
-  no_more = λ file outside small. no_more file (omega (arith, outside, counted Warc)) small;
+  no_more = λ file outside in_range. no_more file (omega (arith, outside, counted Warc)) in_range;
 }
   where
     counted : (kind : Kind) → file_count (image_of (λ k f. contents_of past (name k f)) (known_of warc cdxj)) kind ≡ known_of warc cdxj kind
