@@ -40,7 +40,7 @@ full_stores d laws was taken (stores.Full count limit) full = record {
         (leaves_no_more_itself (crash_of (muted was.told d) (disk_of was.journal)));
   };
   just = tt;
-  fills = ((λ tells. rests_itself d (disk_of was.journal)), refl);
+  fills = ((λ tells. rests_itself d (disk_of was.journal)), refl, refl);
   bytes = λ tells. ((λ none. refl), refl);
 }
 full_stores d laws was taken stores.DiskFault full = absurd full
@@ -74,7 +74,7 @@ module _ {D : Type 0} (d : Ghosts D) (laws : DiskLaws d) (was : Holdings D) (jou
           (opens_earlier (muted was.told d) (laws_muted d was.told laws) (disk_of journal)) unwritten.crash;
     };
     just = tt;
-    fills = fills_none d was looked taken fault (rests, extent);
+    fills = fills_none d was looked taken fault (rests, extent, refl);
     bytes = λ tells. ((λ none. (rests tells).read), ap (λ (image : Image). cdxj_files image) (rests tells).read);
   }
 

@@ -65,12 +65,13 @@ use Rattle.archive_volumes.specs.declared.spot.Spot.{Spot}
 use Rattle.archive_volumes.specs.declared.volumes.Volumes.{Volumes}
 use Rattle.archive_volumes.proofs.ChangeLaws.{DiskLaws, laws_muted}
 use Rattle.archive_core.proofs.EnterLaws.{TellsOfCapture, known_left, known_room, known_with, known_without, tells_of_new}
-use Rattle.archive_core.proofs.FillLaws.{fills_by}
+use Rattle.archive_core.proofs.FillLaws.{fills_by, left_with}
 use Rattle.archive_core.proofs.PayloadLaws.{has_one, one_payload}
 use Rattle.archive_core.proofs.ReadyLaws.{can_commit, ready_now, with_count, with_end}
 use Rattle.archive_index.proofs.ShownLaws.{numbered_with, taken_out}
 use Rattle.archive_volumes.proofs.StoreLaws.{quiet_itself, store_covered, store_kept, store_later, store_moves, store_refused}
 use Rattle.archive_core.proofs.StoredLaws.{archive_left, archive_stored}
+use Rattle.archive_volumes.proofs.RoomLaws.{texts_count}
 use Rattle.archive_volumes.proofs.TakenGroup.{IsGroupWith}
 use Rattle.archive_volumes.proofs.WrittenLaws.{rests_itself, texts_done, texts_refused}
 use Rattle.archive_volumes.proofs.WayLaws.{by_rule, group_with, needed_by, room_captures, room_gains, room_namespace, room_some, way}
@@ -157,6 +158,7 @@ module _ {D : Type 0} (d : Ghosts D) (was is : Holdings D) (journal_is : is.jour
     fills = (
       (λ tells. subst (λ (j : Journal D). Rests d (disk_of was.journal) (disk_of j)) (sym journal_is) (rests_itself d (disk_of was.journal))),
       ap (λ (j : Journal D). extent_of j) journal_is,
+      book_is,
     );
     bytes = λ tells.
         ((λ none. ap (λ (j : Journal D). d.reading (disk_of j)) journal_is), ap (λ (j : Journal D). cdxj_files (d.reading (disk_of j))) journal_is);
@@ -505,7 +507,10 @@ module _ {D : Type 0} (d : Ghosts D) (basis : StoringBasis) (was : Holdings D) (
                 fills_by d (in_volumes was now) is now incoming.taken incoming.same u.payload ready.group refl refl u.has u.ready_is.group ready.prepared
                     u.ready_is.room u.ready_is.born u.ready_is.decided (Err stores.DiskFault) tt tt
                     (λ tells. texts_refused d now.journal journal (texts_with (texts d now.journal) ready.prepared)
-                    (with_more (texts_with (texts d now.journal) ready.prepared) ready.group) fault (Err stores.DiskFault) refl (wrote tells)),
+                    (with_more (texts_with (texts d now.journal) ready.prepared) ready.group) fault (Err stores.DiskFault) refl (wrote tells))
+                    (λ tells. left_with d now is ready.group
+                    (texts_count d now.journal (u.is.holds.in_step tells) ∙ u.is.measured.count)
+                    (texts_count d journal (holds.in_step tells) ∙ measured.count) ready.prepared fault left (wrote tells)),
               );
               bytes = λ tells. ((λ none. absurd none), others tells);
             }
@@ -612,5 +617,6 @@ module _ {D : Type 0} (d : Ghosts D) (basis : StoringBasis) (was : Holdings D) (
                   (fills_by d (in_volumes was now) is now incoming.taken incoming.same u.payload ready.group refl refl u.has u.ready_is.group ready.prepared
                   u.ready_is.room u.ready_is.born u.ready_is.decided (Ok receipt) stored_is ends
                   (λ tells. texts_done d now.journal journal (texts_with (texts d now.journal) ready.prepared)
-                  (with_more (texts_with (texts d now.journal) ready.prepared) ready.group) value receipt (wrote tells)));
+                  (with_more (texts_with (texts d now.journal) ready.prepared) ready.group) value receipt (wrote tells))
+                  (λ tells. tt));
             }

@@ -7,6 +7,7 @@ pub mod ExitLaws
 pub mod FaultLaws
 pub mod FillLaws
 pub mod FuseLaws
+pub mod LastingLaws
 pub mod MatchLaws
 pub mod NamedLaws
 pub mod NextLaws

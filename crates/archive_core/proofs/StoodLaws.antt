@@ -3,34 +3,22 @@ use Rattle.std.proofs.Common.{◌≡◌, ◌⊎◌, ℕ, ◌+◌, ◌<◌, ◌�
 use Rattle.std.specs.Prelude.{slice_index_or}
 use Rattle.std.proofs.lemmas.Bool.{cases_lt}
 use Rattle.std.proofs.lemmas.List.{append-nil}
-use Rattle.capture.specs.declared.captured.Taken.{Taken}
 use Rattle.disk_model.specs.Image.{Image}
 use Rattle.disk_model.specs.Moments.{AddsOnly}
 use Rattle.disk_model.specs.declared.disk.Disk.{Ghosts}
-use Rattle.warc_journal.specs.Extents.{texts_in, warc_files}
+use Rattle.warc_journal.specs.Extents.{warc_files}
 use Rattle.warc_journal.specs.Journals.{IsLeft, Rests, disk_of, extent_of, texts}
-use Rattle.warc_journal.specs.Texts.{Hold, with_more}
-use Rattle.warc_journal.specs.declared.extent.Extent.{Extent}
+use Rattle.warc_journal.specs.Texts.{Hold}
 use Rattle.warc_journal.specs.declared.journal.Journal.{Journal}
-use Rattle.warc_text.specs.Records.{info_text}
-use Rattle.checkpoint.specs.declared.fault.CheckpointFault.{CheckpointFault}
 use Rattle.archive_shelf.proofs.CallLaws.{begins_both}
-use Rattle.archive_shelf.specs.declared.fault.StoreFault.{StoreFault}
-use Rattle.archive_shelf.specs.declared.fault.StoreFault.TheVariants as stores
-use Rattle.archive_shelf.specs.declared.receipt.Receipt.{Receipt}
 use Rattle.archive_volumes.proofs.ChangeLaws.{DiskLaws}
-use Rattle.archive_volumes.proofs.KeepLaws.{texts_go_more}
 use Rattle.archive_volumes.proofs.SpotLaws.{GoOn}
 use Rattle.archive_volumes.proofs.VolumeLaws.{texts_rest}
 use Rattle.archive_volumes.specs.Written.{HoldOneOf, WritesTexts, texts_as}
 use Rattle.archive_core.specs.Holdings.{Holdings}
 use Rattle.archive_core.specs.Looking.{OnlyLooks}
-use Rattle.archive_core.specs.Settling.{SettlesOn}
-use Rattle.archive_settling.specs.Settling.{reach}
-use Rattle.archive_settling.specs.Supplying.{HasSupplied, shelved_as}
-use Rattle.archive_core.specs.Stores.{Fills, FillsVolumes, LeavesVolumes, texts_where}
 use Rattle.archive_core.specs.Stood.{BeginWith, KeepsStood, Lasts, Stood}
-use Rattle.archive_core.proofs.TextLaws.{texts_go_on, texts_stay}
+use Rattle.archive_core.proofs.TextLaws.{texts_stay}
 
 -- ---- texts and files
 
@@ -40,7 +28,7 @@ begin_on was now on = record { enough = on.count; each = λ k less. record { res
 pub begin_itself : (all : List (List ℕ)) → BeginWith all all
 begin_itself all = begin_on all all (texts_stay all)
 
-begin_both : (first then last : List (List ℕ)) → BeginWith first then → BeginWith then last → BeginWith first last
+pub begin_both : (first then last : List (List ℕ)) → BeginWith first then → BeginWith then last → BeginWith first last
 begin_both first then last a b = record {
   enough = omega (arith, a.enough, b.enough);
   each = λ k less.
@@ -62,7 +50,7 @@ begin_held all files held = record {
 
 module _ {D : Type 0} (d : Ghosts D) (laws : DiskLaws d) (stood : Stood) where
   -- a run that adds such images alone
-  lasts_by : (old new : D) (P : Image → Type 0) → Lasts d stood old → AddsOnly d.moment d.images_since old new P
+  pub lasts_by : (old new : D) (P : Image → Type 0) → Lasts d stood old → AddsOnly d.moment d.images_since old new P
       → ((image : Image) → P image → BeginWith stood.finished (warc_files image)) → Lasts d stood new
   lasts_by old new P lasts run gives = record {
     later = omega (arith, lasts.later, run.later);
@@ -107,48 +95,3 @@ module _ {D : Type 0} (d : Ghosts D) (laws : DiskLaws d) (stood : Stood) where
             (λ (same : texts d new ≡ texts d old). subst (BeginWith (texts d old)) (sym same) (begin_itself (texts d old)))
             (λ (is_room : texts d new ≡ room). subst (BeginWith (texts d old)) (sym is_room) roomy)
             stays
-
-  -- ---- a store
-
-  module _ (was is : Holdings D) (taken : Taken) (tells : IsTrue d.tells) (keeps : KeepsStood d stood was.journal) where
-    keeps_left : LeavesVolumes d was is → KeepsStood d stood is.journal
-    keeps_left left = keeps_rests was.journal is.journal keeps (left.0 tells) left.1
-
-    keeps_filled : (same : Option ℕ) (result : Result Receipt StoreFault) → FillsVolumes d was is taken same result → KeepsStood d stood is.journal
-    keeps_filled same result f =
-        let room : List (List ℕ) = texts_where d was f.begun taken.date in
-        keeps_writes was.journal is.journal room (with_more room f.group) (roomy f.begun) (begin_on room (with_more room f.group) (texts_go_more room None f.group)) result
-        keeps (f.bytes tells)
-      where
-        roomy : (begun : Bool) → BeginWith (texts d was.journal) (texts_where d was begun taken.date)
-        roomy true =
-            let info : List ℕ = info_text was.book.namespace (length was.book.volumes) taken.date in
-            begin_on (texts d was.journal) (texts_where d was true taken.date) (texts_go_on (texts d was.journal) info)
-        roomy false = begin_itself (texts d was.journal)
-
-    pub keeps_fills : (result : Result Receipt StoreFault) → Fills d was is taken result → KeepsStood d stood is.journal
-    keeps_fills (Ok receipt) f = keeps_filled receipt.same_as (Ok receipt) f
-    keeps_fills (Err (stores.Full count limit)) left = keeps_left left
-    keeps_fills (Err stores.DiskFault) f = ⊎_elim
-        (λ (left : LeavesVolumes d was is). keeps_left left)
-        (λ (put : (same : Option ℕ) × FillsVolumes d was is taken same (Err stores.DiskFault)). keeps_filled put.0 (Err stores.DiskFault) put.1)
-        f
-    keeps_fills (Err (stores.Damaged number digest found)) left = keeps_left left
-    keeps_fills (Err stores.Memory) left = keeps_left left
-
-  -- ---- checkpoints are written
-
-  pub keeps_settled : (was is : Holdings D) (result : Result ℕ CheckpointFault) → IsTrue d.tells → SettlesOn d was is result → KeepsStood d stood was.journal
-      → KeepsStood d stood is.journal
-  keeps_settled was is result tells settles keeps =
-      let left = settles.leaves tells in
-      let upto : ℕ = reach is.settled result in
-      let same : texts d is.journal ≡ texts d was.journal =
-      ap (λ (e : Extent). texts_in e (warc_files (d.reading (disk_of is.journal)))) settles.extent ∙ ap (texts_in (extent_of was.journal)) left.warc in
-      record {
-        lasts = lasts_by (disk_of was.journal) (disk_of is.journal)
-            (HasSupplied (shelved_as was.told was.book was.spots) upto (d.reading (disk_of was.journal)) (d.images (disk_of was.journal))) keeps.lasts left.leaves
-            (λ image has. subst (BeginWith stood.finished) (sym has.2.warc)
-            (keeps.lasts.images has.0 (laws.now_counts (disk_of was.journal) stood.moment has.0 keeps.lasts.later has.1)));
-        begins = subst (BeginWith stood.finished) (sym same) keeps.begins;
-      }

@@ -1,6 +1,7 @@
 pub mod Basis
 pub mod Bringing
 pub mod Holdings
+pub mod Lasting
 pub mod Looking
 pub mod Matching
 pub mod Settling

@@ -1,20 +1,24 @@
--- The finished texts of an archive's volumes as they stood at a moment, and that none of them loses a byte from then on.
+-- An archive's book and the finished texts of its volumes as they stood at a moment, and that none of these loses a byte from then on.
 use Rattle.std.specs.Prelude.{ℕ, ◌<◌, ◌≤◌, List, [], length, slice_index_or}
+use Rattle.capture.specs.declared.book.Book.{Book}
 use Rattle.disk_model.specs.Crash.{Leaves}
 use Rattle.disk_model.specs.declared.disk.Disk.{Ghosts}
 use Rattle.warc_journal.specs.Extents.{warc_files}
 use Rattle.warc_journal.specs.Journals.{disk_of, texts}
 use Rattle.warc_journal.specs.declared.journal.Journal.{Journal}
 use Rattle.archive_shelf.specs.Contents.{Begins}
+use Rattle.archive_shelf.specs.Storing.{empty_book}
 
--- which texts stood in the volumes' files, in order, and at which moment of the disk
+-- which book an archive had, which texts stood in the volumes' files, in order, at which moment of the disk, and how many faults that had counted
 pub record Stood : Type 0 where
+  pub book : Book
   pub finished : List (List ℕ)
   pub moment : ℕ
+  pub faults : ℕ
 
 -- none did
 abbrev pub none_stood : Stood
-none_stood = record { finished = []; moment = 0 }
+none_stood = record { book = empty_book []; finished = []; moment = 0; faults = 0 }
 
 -- each text stands at the front of its file
 pub record BeginWith (finished files : List (List ℕ)) : Type 0 where

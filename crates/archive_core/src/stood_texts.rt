@@ -10,9 +10,10 @@ pub struct StoodTexts {
 
 impl Model for StoodTexts {
     ghost use Rattle.std.specs.Prelude.{[]};
+    ghost use Rattle.archive_shelf.specs.Storing.{empty_book};
     ghost use Rattle.archive_core.specs.Stood.{Stood};
 
     ghost Value = { Stood };
 
-    ghost view = { λ s. record { finished = []; moment = s.moment } };
+    ghost view = { λ s. record { book = empty_book []; finished = []; moment = s.moment; faults = 0 } };
 }

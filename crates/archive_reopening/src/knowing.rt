@@ -59,7 +59,7 @@ pub fn reopen_known<D: Disk>(
     ensures refused { IfErr result (IsNotOpenedKnown D.Disk disk namespace known) }
     ensures whole { depth ≡ Depth.Whole → IfOk result (IsReopened D.Disk disk namespace limits) }
     ensures whole_refused { depth ≡ Depth.Whole → IfErr result (IsNotOpened D.Disk disk namespace) }
-    ensures stood { depth ≡ Depth.Checkpoints → IfOk result (λ archive. IsTrue D.tells → KeepsOn D.Disk disk archive.journal) }
+    ensures stood { depth ≡ Depth.Checkpoints → IfOk result (λ archive. IsTrue D.tells → KeepsOn D.Disk disk archive) }
 {
     match depth {
         Depth::Whole => open_whole(alloc, disk, namespace, limits),
@@ -83,7 +83,7 @@ pub fn reopen_told<D: Disk>(
     requires known { MayBeSettled D.Disk disk namespace known.now.value }
     ensures reopened { IfOk result (IsReopenedKnown D.Disk (by_checkpoints disk namespace known.now.value) limits) }
     ensures refused { IfErr result (IsNotOpenedKnown D.Disk disk namespace known.now.value) }
-    ensures stood { IfOk result (λ archive. IsTrue D.tells → KeepsOn D.Disk disk archive.journal) }
+    ensures stood { IfOk result (λ archive. IsTrue D.tells → KeepsOn D.Disk disk archive) }
 {
     match open_by_checkpoints(alloc, disk, &namespace, known) {
         Ok(opened) => {

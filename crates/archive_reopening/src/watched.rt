@@ -1,6 +1,6 @@
-//! An archive that is watched: none of the texts that stood finished in its volumes at a moment loses a byte, whatever is called.
+//! An archive that is watched: what stood finished in its volumes at a moment stands there, and all that was stored since, whatever is called.
 ghost use Rattle.std.specs.Prelude.{◌≡◌, IsTrue};
-ghost use Rattle.archive_core.specs.Stood.{KeepsStood};
+ghost use Rattle.archive_core.specs.Lasting.{KeepsStored};
 
 use archive_core::Archive;
 use archive_shelf::{BringFault, Finder, Receipt, Shelf, StoreFault};
@@ -36,19 +36,19 @@ pub struct Watched<D: Disk, S: Since> {
 impl<D: Disk, S: Since> Model for Watched<D, S> {
     ghost use Rattle.std.specs.Prelude.{IsTrue};
     ghost use Rattle.archive_core.specs.Holdings.{Holdings};
-    ghost use Rattle.archive_core.specs.Stood.{KeepsStood};
+    ghost use Rattle.archive_core.specs.Lasting.{KeepsStored};
 
     ghost Value = { Holdings D };
 
     ghost view = { λ w. w.archive };
 
-    ghost invariant = { λ w. IsTrue D.tells → KeepsStood D.Disk S.stood w.archive.journal };
+    ghost invariant = { λ w. IsTrue D.tells → KeepsStored D.Disk S.stood w.archive };
 }
 
 impl<D: Disk, S: Since> Watched<D, S> {
     /// Watches an archive.
     pub fn over(archive: Archive<D>) -> Watched<D, S>
-        requires { IsTrue D.tells → KeepsStood D.Disk S.stood archive.journal }
+        requires { IsTrue D.tells → KeepsStored D.Disk S.stood archive }
         ensures { result ≡ archive }
     {
         Watched {
@@ -60,7 +60,7 @@ impl<D: Disk, S: Since> Watched<D, S> {
     /// The archive, which keeps it still.
     pub fn into_archive(self) -> Archive<D>
         ensures archive { result ≡ self }
-        ensures keeps { IsTrue D.tells → KeepsStood D.Disk S.stood result.journal }
+        ensures keeps { IsTrue D.tells → KeepsStored D.Disk S.stood result }
     {
         let Watched { archive, since: _ } = self;
         archive

@@ -7,6 +7,7 @@ use Rattle.disk_model.specs.Image.{Image}
 use Rattle.disk_model.specs.declared.disk.Disk.{Ghosts}
 use Rattle.warc_journal.specs.Extents.{warc_files}
 use Rattle.warc_journal.specs.Journals.{Changes, IsLeft, Rests, disk_of, texts}
+use Rattle.warc_journal.specs.Laws.{just_are_held}
 use Rattle.warc_journal.specs.Texts.{AreJust, Hold, HoldEither, with_more}
 use Rattle.warc_journal.specs.declared.journal.Journal.{Journal}
 use Rattle.archive_volumes.specs.Written.{HoldOneOf, WritesTexts, texts_as}
@@ -29,12 +30,18 @@ change_refused d old new after fault (Err f) failed change = record {
 pub texts_refused : {D T E S F : Type 0} (d : Ghosts D) (old new : Journal D) (room after : List (List ℕ)) (fault : E) (answer : Result S F) → IsErr answer
     → WritesTexts {T = T} d old new (texts_as room after) (Err fault) → WritesTexts d old new (texts_as room after) answer
 texts_refused d old new room after fault (Ok v) failed wrote = absurd (false≢true failed)
-texts_refused d old new room after fault (Err f) failed wrote = record { leaves = wrote.leaves; only = tt; added = tt; stays = wrote.stays }
+texts_refused d old new room after fault (Err f) failed wrote = record {
+  leaves = wrote.leaves;
+  only = tt;
+  added = tt;
+  stays = wrote.stays;
+  refused = wrote.refused;
+}
 
 -- and what was done as what was done
 pub texts_done : {D T E S F : Type 0} (d : Ghosts D) (old new : Journal D) (room after : List (List ℕ)) (value : T) (done : S)
     → WritesTexts {E = E} d old new (texts_as room after) (Ok value) → WritesTexts {E = F} d old new (texts_as room after) (Ok done)
-texts_done d old new room after value done wrote = record { leaves = wrote.leaves; only = wrote.only; added = wrote.added; stays = tt }
+texts_done d old new room after value done wrote = record { leaves = wrote.leaves; only = wrote.only; added = wrote.added; stays = tt; refused = tt }
 
 pub change_done : {D T E S F : Type 0} (d : Ghosts D) (old new : Journal D) (after : List (List ℕ)) (value : T) (done : S)
     → Changes {E = E} d old new after (Ok value) → Changes {E = F} d old new after (Ok done)
@@ -75,6 +82,7 @@ module _ {D : Type 0} (d : Ghosts D) (old : Journal D) where
     only = change.only;
     added = change.added;
     stays = on_err result (λ (same : texts d new ≡ texts d old). inl same) change.stays;
+    refused = on_err result (λ (same : texts d new ≡ texts d old). inl same) change.stays;
   }
 
   -- the volume is refused
@@ -90,6 +98,7 @@ module _ {D : Type 0} (d : Ghosts D) (old : Journal D) where
     only = tt;
     added = tt;
     stays = inl change.stays;
+    refused = inl change.stays;
   }
 
   -- a volume is begun, and then the capture is added or refused
@@ -107,6 +116,25 @@ module _ {D : Type 0} (d : Ghosts D) (old : Journal D) where
 
     more_same : with_more (texts d mid) group ≡ after
     more_same = ap (λ (all : List (List ℕ)). with_more all group) first.added
+
+    roomed : (files : List (List ℕ)) → Hold (texts d mid) files → HoldEither room after files
+    roomed files held = inl (subst (λ (all : List (List ℕ)). Hold all files) first.added held)
+
+    -- where the capture is refused, there is room for it in each image
+    has_room : (image : Image)
+        → d.images (disk_of mid) image ⊎ IsLeft (d.images (disk_of mid)) (Hold (texts d mid)) image → HoldEither room after (warc_files image)
+    has_room image left = ⊎_elim
+        (λ (was : d.images (disk_of mid) image). inl (just_are_held room (warc_files image) (first.only image was).described))
+        (λ (is : IsLeft (d.images (disk_of mid)) (Hold (texts d mid)) image). roomed (warc_files image) is.described)
+        left
+
+    has_either : (image : Image) → IsLeft (d.images (disk_of mid)) (HoldEither (texts d mid) (with_more (texts d mid) group)) image
+        → HoldEither room after (warc_files image)
+    has_either image left = ⊎_elim
+        (λ (r : Hold (texts d mid) (warc_files image)). roomed (warc_files image) r)
+        (λ (a : Hold (with_more (texts d mid) group) (warc_files image)).
+        inr (subst (λ (all : List (List ℕ)). Hold all (warc_files image)) more_same a))
+        left.described
 
     pub texts_behind : WritesTexts d old new (texts_as room after) result
     texts_behind = record {
@@ -134,6 +162,11 @@ module _ {D : Type 0} (d : Ghosts D) (old : Journal D) where
           second.only;
       added = on_ok result (λ (same : texts d new ≡ with_more (texts d mid) group). same ∙ more_same) second.added;
       stays = on_err result (λ (same : texts d new ≡ texts d mid). inr (same ∙ first.added)) second.stays;
+      refused = on_err result
+          (λ (left : Leaves (d.images (disk_of new)) (λ image. d.images (disk_of mid) image ⊎ IsLeft (d.images (disk_of mid)) (Hold (texts d mid)) image)
+          ⊎ Leaves (d.images (disk_of new)) (IsLeft (d.images (disk_of mid)) (HoldEither (texts d mid) (with_more (texts d mid) group)))).
+          inr (λ image now. ⊎_elim (λ old_or_room. has_room image (old_or_room image now)) (λ either. has_either image (either image now)) left))
+          second.refused;
     }
 
 -- ---- behind a call that only reads
@@ -182,4 +215,10 @@ texts_since d old mid new room after result rests same wrote = record {
       (λ (roomy : texts d new ≡ room). inr roomy)
       left)
       wrote.stays;
+  refused = on_err result
+      (λ (left : (texts d new ≡ texts d mid) ⊎ Leaves (d.images (disk_of new)) (λ image. HoldEither room after (warc_files image))). ⊎_elim
+      (λ (stayed : texts d new ≡ texts d mid). inl (stayed ∙ same))
+      (λ leaves. inr leaves)
+      left)
+      wrote.refused;
 }

@@ -6,6 +6,7 @@ use Rattle.archive_settling.proofs.FinishedLaws.{same_checkpoints_of}
 use Rattle.archive_core.specs.Holdings.{Holdings, contents_of}
 use Rattle.archive_reopening.specs.Known.{HasCheckpointsOfKnown, IsReopenedKnown, Opening, by_checkpoints, told_at}
 use Rattle.archive_settling.specs.Finished.{FirstAreFinished}
+use Rattle.archive_core.proofs.LastingLaws.{counts_later}
 use Rattle.archive_core.specs.Settling.{SettlesOn}
 use Rattle.archive_settling.specs.Settling.{KeepsSettled, reach}
 use Rattle.archive_settling.specs.Supplying.{OpensNoMore, shelved_as}
@@ -85,13 +86,6 @@ module _ {D : Type 0} (disks : Disks D) (stays : KeepsSettled) (before after : H
     stands = stands_still (λ before now. (are before now).stands) image left;
     checkpoints = right_still (λ before now. (are before now).checkpoints) image left;
   }
-
--- ---- counts of faults
-
-pub counts_later : (result : Result ℕ CheckpointFault) (before now : ℕ) → CountsDisk before now result → before ≤ now
-counts_later (Ok written) before now same = omega (arith, same)
-counts_later (Err checkpoints.DiskFault) before now rose = rose.0
-counts_later (Err checkpoints.Memory) before now same = omega (arith, same)
 
 -- ---- opened by checkpoints, and settled
 

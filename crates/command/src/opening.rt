@@ -54,7 +54,7 @@ pub fn open<K: Known, D: Disk, O: Sink>(
     requires uuid { IfSome asked IsUuid }
     requires known { MayBeSettled D.Disk disk asked K.book }
     ensures opened { IfOk result (IsOpened D.Disk (opening_of disk depth asked K.book)) }
-    ensures stood { depth ≡ Depth.Checkpoints → IfOk result (λ archive. IsTrue D.tells → KeepsOn D.Disk disk archive.journal) }
+    ensures stood { depth ≡ Depth.Checkpoints → IfOk result (λ archive. IsTrue D.tells → KeepsOn D.Disk disk archive) }
     ensures refused { IfErr result (λ ran. IsNotOpened D.Disk O.Sink (opening_of disk depth asked K.book) ran.disk (printed_as out.old out.new ran.status)) }
     ensures prints_nothing { OnOk result (out.new ≡ out.old) }
 {

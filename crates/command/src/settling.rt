@@ -1,6 +1,7 @@
 //! The checkpoints that are missing are written before and after a command works with its archive.
 ghost use Rattle.std.specs.Prelude.{◌≡◌, IfErr, IfOk, IfSome, IsTrue, OnOk};
-ghost use Rattle.archive_core.specs.Stood.{KeepsStood, Lasts, Stood};
+ghost use Rattle.archive_core.specs.Lasting.{KeepsStored, StandsSince};
+ghost use Rattle.archive_core.specs.Stood.{Stood};
 ghost use Rattle.archive_reopening.specs.Standing.{KeepsOn};
 ghost use Rattle.archive_opening.specs.Telling.{MayBeSettled};
 ghost use Rattle.archive_volumes.specs.Volumes.{OpensNear};
@@ -33,7 +34,7 @@ pub fn open_and_settle<K: Known, D: Disk, O: Sink>(
     requires uuid { IfSome asked IsUuid }
     requires known { MayBeSettled D.Disk disk asked K.book }
     ensures opened { IfOk result (OpensSettled D.Disk (by_checkpoints disk asked K.book)) }
-    ensures stood { IfOk result (λ archive. IsTrue D.tells → KeepsOn D.Disk disk archive.journal) }
+    ensures stood { IfOk result (λ archive. IsTrue D.tells → KeepsOn D.Disk disk archive) }
     ensures refused { IfErr result (λ ran. IsNotOpened D.Disk O.Sink (by_checkpoints disk asked K.book) ran.disk (printed_as out.old out.new ran.status)) }
     ensures prints_nothing { OnOk result (out.new ≡ out.old) }
 {
@@ -51,7 +52,7 @@ pub fn open_and_settle<K: Known, D: Disk, O: Sink>(
 pub fn settle_and_close<D: Disk>(alloc: Global, archive: Archive<D>, said: Status) -> Ran<D>
     ensures closed { ClosesSettled D.Disk archive said result.disk result.status }
     ensures near { IsTrue archive.told → OpensNear D.Disk result.disk archive.book }
-    ensures lasts { (stood : Stood) → IsTrue D.tells → KeepsStood D.Disk stood archive.journal → Lasts D.Disk stood result.disk }
+    ensures stands { (stood : Stood) → IsTrue D.tells → KeepsStored D.Disk stood archive → StandsSince D.Disk stood archive.book result.disk }
 {
     let mut archive = archive;
     archive.shows_its_book();

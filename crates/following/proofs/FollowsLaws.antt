@@ -7,6 +7,7 @@ use Rattle.command.specs.Settling.{IsOf}
 use Rattle.disk_model.specs.Crash.{Leaves}
 use Rattle.warc_journal.specs.Extents.{cdxj_files}
 use Rattle.archive_reopening.specs.Known.{by_checkpoints}
+use Rattle.archive_core.proofs.LastingLaws.{stands_of}
 use Rattle.archive_reopening.specs.Standing.{KeepsOn}
 use Rattle.archive_core.specs.Told.{told_of}
 use Rattle.archive_shelf.proofs.CallLaws.{no_more}
@@ -73,7 +74,7 @@ moves_so disks was is before after Allowed same_before same_after moves =
 follows_left : {D N M C O : Type 0} (disks : Disks D) (dialers : Dialers N M) (sinks : Sinks O) (tells : Bool) (known : Option Book) → (laws : DiskLaws disks) (asked : Option (List ℕ)) (site : Site)
     (was is : Objects D ⊤ (N × C) O) (status : Status) (held left : Holdings D)
     → IsOpened disks (by_checkpoints was.disk asked known) held → (IsTrue held.told → Leaves (disks.images (disk_of held.journal)) (IsOf held.book))
-    → (IsTrue disks.tells → KeepsOn disks was.disk held.journal) → (IsTrue left.told → OpensNear disks (disk_of left.journal) left.book)
+    → (IsTrue disks.tells → KeepsOn disks was.disk held) → (IsTrue left.told → OpensNear disks (disk_of left.journal) left.book)
     → FollowsTo disks dialers sinks tells (source_of site) held left was.crew.0 is.crew.0 (printed_as was.out is.out status)
     → is.crew.1 ≡ was.crew.1 → Follows disks dialers sinks tells known asked site was (record is { disk = disk_of left.journal }) status
 follows_left disks dialers sinks tells known laws asked site was is status held left opened are standing near follows clock =
@@ -89,7 +90,7 @@ follows_left disks dialers sinks tells known laws asked site was is status held 
       near = λ told. near (stays ∙ told);
       bytes = λ so.
           let on = standing so in
-          record { stood = on.stood; on = on.on; lasts = (f.goes_on.stands so on.stood on.keeps).lasts };
+          record { stood = on.stood; on = on.on; lasts = (f.goes_on.stands so on.stood (stands_of disks laws on.stood held on.keeps)).lasts };
       right = λ told image now.
           let before = f.goes_on.kept (cdxj_files image) (stays ∙ told, image, now, refl) in
           checkpoints_later held.book left.book image f.goes_on.grows
@@ -120,7 +121,7 @@ follows_left disks dialers sinks tells known laws asked site was is status held 
 pub follows_by : {D N M C O : Type 0} (disks : Disks D) (dialers : Dialers N M) (sinks : Sinks O) (tells : Bool) (known : Option Book) → (laws : DiskLaws disks) (asked : Option (List ℕ))
     (site : Site) (was is : Objects D ⊤ (N × C) O) (out_opened : O) (status : Status) (held left : Holdings D)
     → IsOpened disks (by_checkpoints was.disk asked known) held → (IsTrue held.told → Leaves (disks.images (disk_of held.journal)) (IsOf held.book))
-    → (IsTrue disks.tells → KeepsOn disks was.disk held.journal) → is.disk ≡ disk_of left.journal → out_opened ≡ was.out
+    → (IsTrue disks.tells → KeepsOn disks was.disk held) → is.disk ≡ disk_of left.journal → out_opened ≡ was.out
     → (IsTrue left.told → OpensNear disks is.disk left.book)
     → FollowsTo disks dialers sinks tells (source_of site) held left was.crew.0 is.crew.0 (printed_as out_opened is.out status)
     → is.crew.1 ≡ was.crew.1 → Follows disks dialers sinks tells known asked site was is status

@@ -9,7 +9,7 @@ use Rattle.archive_reopening.specs.Known.{IsReopenedKnown, by_checkpoints}
 use Rattle.command.specs.Settling.{IsOf}
 use Rattle.disk_model.specs.Crash.{Leaves}
 use Rattle.warc_journal.specs.Extents.{cdxj_files}
-use Rattle.archive_reopening.specs.Standing.{KeepsFinished}
+use Rattle.archive_reopening.specs.Standing.{LeavesStored}
 use Rattle.archive_core.specs.Told.{told_of, told_on}
 use Rattle.archive_shelf.proofs.CallLaws.{no_more, opened_before}
 use Rattle.archive_shelf.specs.Answers.{CountsIf}
@@ -205,11 +205,11 @@ module _ {D : Type 0} (disks : Disks D) (laws : DiskLaws disks) (given : D) (ask
 imports_left : {D G L P O : Type 0} (disks : Disks D) (gates : Gates G L P) (sinks : Sinks O) (clients_tell : Bool) → (laws : DiskLaws disks) (asked : Option (List ℕ))
     (was is : Objects D G ⊤ O) (status : Status) (held left : Holdings D) (known : Option Book) → IsOpened disks (by_checkpoints was.disk asked known) held
     → (IsTrue held.told → Leaves (disks.images (disk_of held.journal)) (IsOf held.book)) → (IsTrue left.told → OpensNear disks (disk_of left.journal) left.book)
-    → (IsTrue disks.tells → KeepsFinished disks was.disk (disk_of left.journal))
+    → (IsTrue disks.tells → LeavesStored disks was.disk held.book (disk_of left.journal) left.book)
     → ImportsFirst true sinks clients_tell (gate_told gates was.gate) (gate_told gates is.gate) (told_of disks held) (told_of disks left) (printed_as was.out is.out status)
     → Imports disks gates sinks clients_tell known asked was (record is { disk = disk_of left.journal }) status
 unfolding keeps_since
-imports_left disks gates sinks clients_tell laws asked was is status held left known opened are near bytes first =
+imports_left disks gates sinks clients_tell laws asked was is status held left known opened are near stored first =
     let k = first.imported.keeps in
     let so : IsTrue held.told → IsTrue left.told = λ told. k.goes_on.same_tells ∙ told in
     record {
@@ -223,7 +223,7 @@ imports_left disks gates sinks clients_tell laws asked was is status held left k
       keeps = keeps_since disks laws was.disk asked held left known opened.is first.imported.intake first.imported.keeps;
       told = first.imported.told;
       near = λ told. near (so told);
-      bytes = bytes;
+      stored = stored;
       right = λ told image now.
           let before = k.goes_on.kept (cdxj_files image) (so told, image, now, refl) in
           checkpoints_later held.book left.book image k.goes_on.grows
@@ -240,13 +240,13 @@ pub imports_by : {D G L P O : Type 0} (disks : Disks D) (gates : Gates G L P) (s
     (was is : Objects D G ⊤ O) (out_opened : O) (status : Status) (held left : Holdings D) (known : Option Book)
     → IsOpened disks (by_checkpoints was.disk asked known) held → (IsTrue held.told → Leaves (disks.images (disk_of held.journal)) (IsOf held.book))
     → is.disk ≡ disk_of left.journal → out_opened ≡ was.out
-    → (IsTrue left.told → OpensNear disks is.disk left.book) → (IsTrue disks.tells → KeepsFinished disks was.disk is.disk)
+    → (IsTrue left.told → OpensNear disks is.disk left.book) → (IsTrue disks.tells → LeavesStored disks was.disk held.book is.disk left.book)
     → ImportsFirst true sinks clients_tell (gate_told gates was.gate) (gate_told gates is.gate) (told_of disks held) (told_of disks left) (printed_as out_opened is.out status)
     → Imports disks gates sinks clients_tell known asked was is status
-imports_by {D} {G} {L} {P} {O} disks gates sinks clients_tell laws asked was is out_opened status held left known opened are closed silent near bytes first =
+imports_by {D} {G} {L} {P} {O} disks gates sinks clients_tell laws asked was is out_opened status held left known opened are closed silent near stored first =
     subst (λ (d : D). Imports disks gates sinks clients_tell known asked was (record is { disk = d }) status) (sym closed)
     (imports_left disks gates sinks clients_tell laws asked was is status held left known opened are
     (λ told. subst (λ (d : D). OpensNear disks d left.book) closed (near told))
-    (λ tells. subst (λ (d : D). KeepsFinished disks was.disk d) closed (bytes tells))
+    (λ tells. subst (λ (d : D). LeavesStored disks was.disk held.book d left.book) closed (stored tells))
     (subst (λ (o : O). ImportsFirst true sinks clients_tell (gate_told gates was.gate) (gate_told gates is.gate) (told_of disks held) (told_of disks left) (printed_as o is.out status))
     silent first))

@@ -3,7 +3,7 @@ use Rattle.std.specs.Prelude.{◌≡◌, ◌⊎◌, ℕ, Bool, true, List, [], �
 use Rattle.std.specs.List.{flat_map}
 use Rattle.archive_core.specs.Holdings.{Holdings, contents_of}
 use Rattle.archive_reopening.specs.Known.{by_checkpoints}
-use Rattle.archive_reopening.specs.Standing.{KeepsFinished}
+use Rattle.archive_reopening.specs.Standing.{LeavesStored}
 use Rattle.archive_core.specs.Told.{told_on}
 use Rattle.archive_volumes.specs.Volumes.{OpensNear}
 use Rattle.archive_shelf.specs.Contents.{Contents}
@@ -106,8 +106,8 @@ module _ {D G L P O : Type 0} (disks : Disks D) (gates : Gates G L P) (sinks : S
     pub keeps : Keeps true intake (told_on disks was.disk (contents_of before)) (told_on disks is.disk after)
     pub told : Tells sinks intake (printed_as was.out is.out status) input
     pub near : IsTrue before.told → OpensNear disks is.disk after.seen
-    -- whatever is told of the book, no finished text of its volumes lost a byte, at whatever moment a crash stopped that
-    pub bytes : IsTrue disks.tells → KeepsFinished disks was.disk is.disk
+    -- whatever is told of the book, each capture that was stored stands with just its records, from its store on, behind all that stood finished before
+    pub stored : IsTrue disks.tells → LeavesStored disks was.disk before.book is.disk after.seen
     -- where the book is told, the finished checkpoints of each image that a crash may leave are those of its sealed volumes
     pub right : IsTrue before.told → Leaves (disks.images is.disk) (λ image. HasCheckpointsOf image after.seen)
     -- where the book is told and ids differ, each image that a crash may leave, and so what a read gives, stands for just what was stored

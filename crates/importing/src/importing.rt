@@ -1,6 +1,6 @@
 //! The command `import`: stores the captures of a WARC file of another tool.
 ghost use Rattle.std.specs.Prelude.{◌≡◌, ◌≤◌, ◌⊎◌, ℕ, true, List, [], length, IfSome, IsTrue, Ok, Err, Option};
-ghost use Rattle.archive_core.specs.Stood.{KeepsStood};
+ghost use Rattle.archive_core.specs.Lasting.{KeepsStored};
 ghost use Rattle.archive_core.specs.Told.{told_of};
 ghost use Rattle.archive_opening.specs.Telling.{MayBeSettled};
 ghost use Rattle.archive_shelf.specs.declared.fault.StoreFault.{StoreFault as Refusal};
@@ -72,10 +72,10 @@ fn import_watched<D: Disk, G: Gate, O: Sink, S: Since>(
     gate: &mut G,
     out: &mut O,
 ) -> (Archive<D>, Status)
-    requires { IsTrue D.tells → KeepsStood D.Disk S.stood archive.journal }
+    requires { IsTrue D.tells → KeepsStored D.Disk S.stood archive }
     ensures first { ImportsFirst true O.Sink G.Link.tells (gate_told G.Gate gate.old) (gate_told G.Gate gate.new) (told_of D.Disk archive) (told_of D.Disk result.0)
         (printed_as out.old out.new result.1) }
-    ensures keeps { IsTrue D.tells → KeepsStood D.Disk S.stood result.0.journal }
+    ensures keeps { IsTrue D.tells → KeepsStored D.Disk S.stood result.0 }
 {
     // only the clauses read it
     let _ = stood;

@@ -3,7 +3,7 @@ use Rattle.std.proofs.Common.{◌≡◌, ◌⊎◌, ℕ, ◌≤◌, Bool, true, 
 use Rattle.archive_core.proofs.TellingLaws.{quiet_muted}
 use Rattle.archive_core.specs.Holdings.{Holdings}
 use Rattle.archive_reopening.specs.Known.{by_checkpoints}
-use Rattle.archive_reopening.specs.Standing.{KeepsFinished}
+use Rattle.archive_reopening.specs.Standing.{LeavesStored}
 use Rattle.archive_core.specs.Told.{told_of}
 use Rattle.archive_settling.specs.Supplying.{OpensNoMore}
 use Rattle.archive_shelf.specs.Openings.{StaysCovered}
@@ -65,14 +65,14 @@ module _ {D G L P N M C O : Type 0} (kinds : Kinds D G L P N M C O) (laws : Disk
   serves_by same (inl one) = inl (has_served same one)
   serves_by same (inr none) = inr none
 
-  pub pipes_by : ClosesSettled kinds.disks after said is.disk status → (IsTrue after.told → OpensNear kinds.disks is.disk after.book) → (IsTrue kinds.disks.tells → KeepsFinished kinds.disks was.disk is.disk)
+  pub pipes_by : ClosesSettled kinds.disks after said is.disk status → (IsTrue after.told → OpensNear kinds.disks is.disk after.book) → (IsTrue kinds.disks.tells → LeavesStored kinds.disks was.disk before.book is.disk after.book)
       → (IsTrue kinds.clients_tell → IsTrue kinds.origins_tell
       → ServesOne true (record { site = pipe_site; clock_tells = kinds.clocks.tells }) (around_in kinds was) (around_in kinds is) (told_of kinds.disks before) (told_of kinds.disks after) said
       ⊎ (IsEnd (kinds.gates.closed was.gate) (kinds.gates.faults was.gate) (kinds.gates.faults is.gate) said × (around_in kinds is ≡ around_in kinds was) × (after ≡ before)))
       → GoesOn true (told_of kinds.disks before) (told_of kinds.disks after)
       → (said ≡ Outside) ⊎ (((said ≡ Done) ⊎ (said ≡ Memory)) × (kinds.gates.faults is.gate ≡ kinds.gates.faults was.gate)) → is.out ≡ was.out
       → Pipes kinds known asked was is status
-  pipes_by closed near bytes serves goes_on ends silent =
+  pipes_by closed near stored serves goes_on ends silent =
       let quiet = quiet_muted kinds.disks before.told
       (λ told. told_tells Checkpoints kinds.disks.tells known (sym (ready_tells kinds.disks opened) ∙ told)) was.disk (disk_of opened.held.journal) opened.opened.is.quiet in
       let first = ready_opens kinds.disks opened in
@@ -91,7 +91,7 @@ module _ {D G L P N M C O : Type 0} (kinds : Kinds D G L P N M C O) (laws : Disk
         goes_on = goes_on;
         closed = closed;
         near = λ told. near (goes_on.same_tells ∙ told);
-        bytes = bytes;
+        stored = stored;
         covered = λ t le all.
             behind.covered t (omega (arith, le, quiet.later, first.later, later))
             (during t (omega (arith, le, quiet.later, first.later))

@@ -8,7 +8,7 @@ use Rattle.std.proofs.lemmas.List.Sums.{sum_by-cons}
 use Rattle.archive_core.specs.Holdings.{Holdings, contents_of}
 use Rattle.archive_reopening.specs.Known.{by_checkpoints}
 use Rattle.archive_core.specs.Stood.{Stood}
-use Rattle.archive_reopening.specs.Standing.{KeepsFinished}
+use Rattle.archive_reopening.specs.Standing.{LeavesStored}
 use Rattle.archive_core.specs.Told.{told_of}
 use Rattle.checkpoint.specs.OfVolume.{HasCheckpointsOf}
 use Rattle.archive_shelf.specs.Contents.{Contents}
@@ -181,9 +181,9 @@ module _ {D G L P N M C O : Type 0} (kinds : Kinds D G L P N M C O) (known : Opt
       })
       → (counted : Status) → TellsCount kinds.sinks (length (captures after.book)) said (printed_as was.out is.out counted)
       → (status : Status) → ClosesSettled kinds.disks after counted is.disk status → (IsTrue after.told → OpensNear kinds.disks is.disk after.book)
-      → (lasts vault.sure.stood → IsTrue kinds.disks.tells → KeepsFinished kinds.disks was.disk is.disk)
+      → (lasts vault.sure.stood → IsTrue kinds.disks.tells → LeavesStored kinds.disks was.disk before.book is.disk after.book)
       → drop vault.passes is.crew ≡ drop vault.passes was.crew → Serves kinds known (record { asked = asked; site = site; workers = vault.passes }) was is status
-  serves_over before after lasts opened name new back said serves ended of_all counted tells status closed near bytes others =
+  serves_over before after lasts opened name new back said serves ended of_all counted tells status closed near stored others =
       let same : after.told ≡ before.told = of_all.told_is ∙ name.tells in
       record {
         before = before;
@@ -213,6 +213,6 @@ module _ {D G L P N M C O : Type 0} (kinds : Kinds D G L P N M C O) (known : Opt
         only = λ none. of_all.calm name.calm (sym (faults_as seats) ∙ none);
         right = of_all.right name.right;
         near = λ t. near (same ∙ t);
-        bytes = bytes (of_all.lasts name.lasts);
+        stored = stored (of_all.lasts name.lasts);
         others = others;
       }

@@ -2,7 +2,7 @@
 use Rattle.std.specs.Prelude.{◌≡◌, ◌⊎◌, ◌≤◌, ℕ, List, true, IsTrue, Option}
 use Rattle.archive_core.specs.Holdings.{Holdings, contents_of}
 use Rattle.archive_reopening.specs.Known.{Opening, by_checkpoints}
-use Rattle.archive_reopening.specs.Standing.{KeepsFinished}
+use Rattle.archive_reopening.specs.Standing.{LeavesStored}
 use Rattle.archive_core.specs.Told.{told_of}
 use Rattle.archive_volumes.specs.Volumes.{OpensNear, crash_of, muted}
 use Rattle.archive_shelf.specs.Openings.{HasIds, ImageStandsFor, SameBook, StaysCovered}
@@ -54,8 +54,8 @@ module _ {D G L P N M C O : Type 0} (kinds : Kinds D G L P N M C O) where
     pub goes_on : GoesOn true (told_of kinds.disks before) (told_of kinds.disks after)
     pub closed : ClosesSettled kinds.disks after said is.disk status
     pub near : IsTrue before.told → OpensNear kinds.disks is.disk after.book
-    -- whatever is told of the book, no finished text of its volumes lost a byte, at whatever moment a crash stopped that
-    pub bytes : IsTrue kinds.disks.tells → KeepsFinished kinds.disks was.disk is.disk
+    -- whatever is told of the book, each capture that was stored stands with just its records, from its store on, behind all that stood finished before
+    pub stored : IsTrue kinds.disks.tells → LeavesStored kinds.disks was.disk before.book is.disk after.book
     pub covered : StaysCovered (crash_of (muted before.told kinds.disks) was.disk) (crash_of (muted before.told kinds.disks) is.disk)
     pub ends : (said ≡ Outside) ⊎ (((said ≡ Done) ⊎ (said ≡ Memory)) × (kinds.gates.faults is.gate ≡ kinds.gates.faults was.gate))
     pub disk_faults : kinds.disks.faults was.disk ≤ kinds.disks.faults is.disk

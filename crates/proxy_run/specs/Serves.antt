@@ -4,7 +4,7 @@ use Rattle.std.specs.List.{flat_map, range_with_len, sum_by}
 use Rattle.std.specs.List.Sorted.{IsStrictlyIncreasing}
 use Rattle.archive_core.specs.Holdings.{Holdings, contents_of}
 use Rattle.archive_reopening.specs.Known.{by_checkpoints}
-use Rattle.archive_reopening.specs.Standing.{KeepsFinished}
+use Rattle.archive_reopening.specs.Standing.{LeavesStored}
 use Rattle.archive_core.specs.Told.{told_of}
 use Rattle.checkpoint.specs.OfVolume.{HasCheckpointsOf}
 use Rattle.archive_shelf.specs.Contents.{Contents}
@@ -102,8 +102,8 @@ module _ {D G L P N M C O : Type 0} (kinds : Kinds D G L P N M C O) (known : Opt
     -- where the book is told, the finished checkpoints of each image that they leave are those of the last book
     pub right : IsTrue after.told → Leaves (kinds.disks.images (disk_of after.journal)) (λ image. HasCheckpointsOf image after.book)
     pub near : IsTrue before.told → OpensNear kinds.disks is.disk after.book
-    -- whatever is told of the book, no finished text of its volumes lost a byte, at whatever moment a crash stopped that
-    pub bytes : IsTrue kinds.disks.tells → KeepsFinished kinds.disks was.disk is.disk
+    -- whatever is told of the book, each capture that was stored stands with just its records, from its store on, behind all that stood finished before
+    pub stored : IsTrue kinds.disks.tells → LeavesStored kinds.disks was.disk before.book is.disk after.book
     pub others : drop duty.workers is.crew ≡ drop duty.workers was.crew
 
   -- The archive was opened and settled, but there was no memory for so many shelves: it was settled again, and nothing else was touched.
@@ -112,5 +112,5 @@ module _ {D G L P N M C O : Type 0} (kinds : Kinds D G L P N M C O) (known : Opt
     pub opened : OpensSettled kinds.disks (by_checkpoints was.disk asked known) before
     pub closed : ClosesSettled kinds.disks before Memory is.disk status
     pub near : IsTrue before.told → OpensNear kinds.disks is.disk before.book
-    pub bytes : IsTrue kinds.disks.tells → KeepsFinished kinds.disks was.disk is.disk
+    pub stored : IsTrue kinds.disks.tells → LeavesStored kinds.disks was.disk before.book is.disk before.book
     pub untouched : is ≡ record was { disk = is.disk }

@@ -137,7 +137,7 @@ where
     requires enough { unnamed.passes ≤ length crew.old.items }
     ensures { let kinds = kinds_of D.Disk G.Gate N.Dialer C.Clock O.Sink G.Link.tells N.Link.tells in
         (known : Option Book) (asked : Option (List ℕ)) (disk : D) (before : Holdings D) → OpensSettled D.Disk (by_checkpoints disk asked known) before
-        → IsNameOf unnamed (contents_of before) (D.faults (disk_of before.journal)) → (IsTrue D.tells → StoodOn D.Disk disk unnamed.sure.stood)
+        → IsNameOf unnamed (contents_of before) (D.faults (disk_of before.journal)) → (IsTrue D.tells → StoodOn D.Disk disk unnamed.sure.stood × (unnamed.sure.stood.book ≡ before.book))
         → Serves kinds known (record { asked = asked; site = site.now; workers = unnamed.passes }) (objects_of disk gate.old crew.old.items out.old)
         (objects_of result.disk gate.new crew.new.items out.new) result.status }
 {

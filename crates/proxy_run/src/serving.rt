@@ -1,6 +1,6 @@
 //! Serves the gate's first connection.
 ghost use Rattle.std.specs.Prelude.{◌≡◌, ◌<◌, ◌⊎◌, true, IsTrue, IfOk};
-ghost use Rattle.archive_core.specs.Stood.{KeepsStood};
+ghost use Rattle.archive_core.specs.Lasting.{KeepsStored};
 ghost use Rattle.archive_core.specs.Told.{told_of};
 ghost use Rattle.archive_shelf.specs.Told.{GoesOn};
 ghost use Rattle.outside.specs.Gate.{Connections, one_given};
@@ -29,7 +29,7 @@ pub(crate) fn serve_watched<D: Disk, G: Gate, N: Dialer, C: Clock, S: Since>(
     gate: &mut G,
     member: &mut (N, C),
 ) -> (Archive<D>, Status)
-    requires { IsTrue D.tells → KeepsStood D.Disk S.stood archive.journal }
+    requires { IsTrue D.tells → KeepsStored D.Disk S.stood archive }
     ensures serves { IsTrue G.Link.tells → IsTrue N.Link.tells
         → ServesOne true (record { site = pipe_site; clock_tells = C.tells }) (told_around G.Gate N.Dialer C.Clock gate.old member.old)
         (told_around G.Gate N.Dialer C.Clock gate.new member.new) (told_of D.Disk archive) (told_of D.Disk result.0) result.1
@@ -38,7 +38,7 @@ pub(crate) fn serve_watched<D: Disk, G: Gate, N: Dialer, C: Clock, S: Since>(
     ensures goes_on { GoesOn true (told_of D.Disk archive) (told_of D.Disk result.0) }
     ensures ends { (result.1 ≡ Status.Outside)
         ⊎ (((result.1 ≡ Status.Done) ⊎ (result.1 ≡ Status.Memory)) × (G.faults gate.new ≡ G.faults gate.old)) }
-    ensures keeps { IsTrue D.tells → KeepsStood D.Disk S.stood result.0.journal }
+    ensures keeps { IsTrue D.tells → KeepsStored D.Disk S.stood result.0 }
 {
     // only the clauses read it
     let _ = stood;

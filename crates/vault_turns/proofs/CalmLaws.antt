@@ -20,7 +20,7 @@ use Rattle.archive_volumes.proofs.StoreLaws.{opens_earlier}
 use Rattle.archive_volumes.specs.Volumes.{muted}
 use Rattle.archive_settling.proofs.FinishedLaws.{checkpoints_later, same_checkpoints_of}
 use Rattle.archive_core.specs.Holdings.{Holdings}
-use Rattle.archive_core.specs.Stood.{KeepsStood}
+use Rattle.archive_core.specs.Lasting.{KeepsStored}
 use Rattle.archive_core.specs.Stores.{Stores}
 use Rattle.archive_core.specs.Told.{told_of}
 use Rattle.vault_turns.specs.Calm.{StaysCalm, StaysRight, StaysStood, StillStands}
@@ -113,7 +113,7 @@ read_right d history added after was is begun joined same more right =
 
 -- behind a turn that leaves it
 pub stays_stood : {D : Type 0} (d : Ghosts D) (history added after : List Noted) (was is : Holdings D) → IsBegun history → after ≡ history ++ added
-    → (IsTrue d.tells → KeepsStood d (sure_in history).stood was.journal → KeepsStood d (sure_in history).stood is.journal)
+    → (IsTrue d.tells → KeepsStored d (sure_in history).stood was → KeepsStored d (sure_in history).stood is)
     → StaysStood d history was → StaysStood d after is
 stays_stood d history added after was is begun joined keeps stands =
     subst (λ (s : Sure). IsTrue s.lasts → StillStands d s.stood is) (sym (sure_before history added after begun joined))

@@ -1,4 +1,4 @@
--- What a crash leaves of the archive: its book alone where the disk didn't fail, and in any case its checkpoints, and the texts that stood in its volumes.
+-- What a crash leaves of the archive: its book alone where the disk didn't fail, and in any case its checkpoints, and what stood and was stored in its volumes.
 use Rattle.std.specs.Prelude.{◌≡◌, IsTrue, List, None}
 use Rattle.disk_model.specs.Crash.{Leaves}
 use Rattle.disk_model.specs.declared.disk.Disk.{Ghosts}
@@ -6,7 +6,8 @@ use Rattle.warc_journal.specs.Journals.{disk_of}
 use Rattle.archive_shelf.specs.Openings.{HasIds, IsState}
 use Rattle.checkpoint.specs.OfVolume.{HasCheckpointsOf}
 use Rattle.archive_core.specs.Holdings.{Holdings}
-use Rattle.archive_core.specs.Stood.{KeepsStood, Stood}
+use Rattle.archive_core.specs.Lasting.{KeepsStored}
+use Rattle.archive_core.specs.Stood.{Stood}
 use Rattle.archive_core.specs.Told.{told_of}
 use Rattle.vault_turns.specs.History.{sure_in}
 use Rattle.vault_turns.specs.Own.{faults_since}
@@ -21,9 +22,9 @@ abbrev pub HasRightCheckpoints : {D : Type 0} → Ghosts D → Holdings D → Ty
 HasRightCheckpoints d holdings =
     IsTrue holdings.told → Leaves (d.images (disk_of holdings.journal)) (λ image. HasCheckpointsOf image holdings.book)
 
--- whatever is told of the book: what stood stands, and a crash has left it at each moment since
+-- whatever is told of the book: what stood stands, with all that was stored since, and a crash has left each of that at each moment since its store
 abbrev pub StillStands : {D : Type 0} → Ghosts D → Stood → Holdings D → Type 0
-StillStands d stood holdings = IsTrue d.tells → KeepsStood d stood holdings.journal
+StillStands d stood holdings = IsTrue d.tells → KeepsStored d stood holdings
 
 -- ---- as it was when the archive was given
 
@@ -35,7 +36,7 @@ StaysCalm d history holdings = IsTrue (sure_in history).calm → faults_since hi
 abbrev pub StaysRight : {D : Type 0} → Ghosts D → List Noted → Holdings D → Type 0
 StaysRight d history holdings = IsTrue (sure_in history).right → HasRightCheckpoints d holdings
 
--- and in one in which something stood it stands
+-- and in one in which something stood it stands, with all that was stored since
 abbrev pub StaysStood : {D : Type 0} → Ghosts D → List Noted → Holdings D → Type 0
 StaysStood d history holdings = IsTrue (sure_in history).lasts → StillStands d (sure_in history).stood holdings
 

@@ -5,7 +5,7 @@ use Rattle.archive_volumes.proofs.ChangeLaws.{DiskLaws}
 use Rattle.archive_reopening.specs.Making.{IsMadeOf}
 use Rattle.archive_reopening.proofs.KnownLaws.{basis_told, entries_told, finished_told, may_be_known, refused_told, reopened_told, usable_told}
 use Rattle.archive_reopening.proofs.ReopenLaws.{no_memory, none_known}
-use Rattle.archive_reopening.proofs.StoodLaws.{keeps_made, keeps_on}
+use Rattle.archive_reopening.proofs.StoodLaws.{keeps_made, stood_on}
 use Rattle.warc_journal.specs.Journals.{disk_of}
 use Rattle.archive_shelf.specs.declared.depth.Depth.TheVariants.{Checkpoints}
 use Rattle.archive_reopening.specs.Known.{told_at}
@@ -57,5 +57,6 @@ returns-in-Err-clause-refused g c =
 pub returns-in-Ok-clause-stood : goal.returns-in-Ok-clause-stood
 returns-in-Ok-clause-stood g c =
     keeps_made g.D.Disk (disk_laws g) c.args.disk c.in-Ok.opened c.args.limits _ c.archive_of.result c.archive_of.ensures.made
-    (λ tells. keeps_on g.D.Disk (disk_laws g) c.args.disk _ c.in-Ok.opened tells c.in-Ok.ensures.opened.usable (c.in-Ok.ensures.opened.rests tells)
-    (c.in-Ok.ensures.counts tells) (c.in-Ok.ensures.ends tells) (g.met.D.Disk.reading_is_image (disk_of c.in-Ok.opened.journal) tells))
+    c.in-Ok.ensures.opened.usable.left
+    (λ tells. stood_on g.D.Disk (disk_laws g) c.args.disk _ c.in-Ok.opened tells c.in-Ok.ensures.opened.usable (c.in-Ok.ensures.opened.rests tells)
+    c.in-Ok.ensures.opened.faults (c.in-Ok.ensures.counts tells) (c.in-Ok.ensures.ends tells) (g.met.D.Disk.reading_is_image (disk_of c.in-Ok.opened.journal) tells))

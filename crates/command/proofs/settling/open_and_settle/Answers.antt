@@ -1,6 +1,7 @@
 -- The archive was opened, and its checkpoints were written; or it was refused.
-use Rattle.std.proofs.Common.{refl}
-use Rattle.archive_core.proofs.StoodLaws.{keeps_settled}
+use Rattle.std.proofs.Common.{refl, sym, ap, ◌∙◌}
+use Rattle.archive_core.proofs.LastingLaws.{stored_settled}
+use Rattle.archive_core.specs.Holdings.{Holdings}
 use Rattle.archive_volumes.proofs.ChangeLaws.{DiskLaws}
 use Rattle.command.proofs.SettlingLaws.{opens_settled}
 use Rattle.command.proofs.settling.open_and_settle.Given.{Over}
@@ -21,5 +22,6 @@ returns-clause-stood g c = λ tells.
     record {
       stood = on.stood;
       on = on.on;
-      keeps = keeps_settled g.D.Disk (disk_laws g) on.stood c.in-Ok.archive c.settle-answer.new.self c.settle-answer.result tells c.settle-answer.ensures on.keeps;
+      book_is = on.book_is ∙ sym (ap (λ (held : Holdings _). held.book) c.settle-answer.ensures.others);
+      keeps = stored_settled g.D.Disk (disk_laws g) on.stood c.in-Ok.archive c.settle-answer.new.self c.settle-answer.result tells c.settle-answer.ensures on.keeps;
     }

@@ -1,6 +1,6 @@
 -- The archive was refused, or the gate's first connection was imported.
 use Rattle.std.proofs.Common.{refl, sym, subst, inl, inr}
-use Rattle.archive_core.specs.Stood.{Lasts}
+use Rattle.archive_core.specs.Lasting.{StandsSince}
 use Rattle.archive_reopening.specs.Standing.{KeepsOn, StoodOn}
 use Rattle.archive_volumes.proofs.ChangeLaws.{DiskLaws}
 use Rattle.command.specs.Objects.{objects_of}
@@ -23,7 +23,7 @@ returns-in-Err g c = inr (rw c.asked_of.ensures at c.in-Err.ensures.refused, ref
 
 pub stood_on-stood-requires : goal.stood_on-stood-requires
 stood_on-stood-requires g c = λ tells.
-    subst (λ (disk : _). KeepsOn g.D.Disk disk c.in-Ok.archive.journal) (sym c.told_by-given.ensures) (c.in-Ok.ensures.stood refl tells)
+    subst (λ (disk : _). KeepsOn g.D.Disk disk c.in-Ok.archive) (sym c.told_by-given.ensures) (c.in-Ok.ensures.stood refl tells)
 
 pub import_watched-archive-requires : goal.import_watched-archive-requires
 import_watched-archive-requires g c = c.stood_on-stood.ensures.keeps
@@ -41,6 +41,8 @@ returns g c =
     (λ tells. record {
       stood = c.stood_on-stood.result.value;
       on = subst (λ (disk : _). StoodOn g.D.Disk disk c.stood_on-stood.result.value) c.told_by-given.ensures (c.stood_on-stood.ensures.on tells);
-      lasts = subst (Lasts g.D.Disk c.stood_on-stood.result.value) (sym c.close.ensures.disk) (c.import_watched-archive.ensures.keeps tells).lasts;
+      began = c.stood_on-stood.ensures.book tells;
+      stands = subst (λ (disk : _). StandsSince g.D.Disk c.stood_on-stood.result.value left.book disk) (sym c.close.ensures.disk)
+          (c.import_watched-archive.ensures.keeps tells).stands;
     })
     c.import_watched-archive.ensures.first)

@@ -34,7 +34,7 @@ returns-in-Err g c = inr (record {
 
 pub stood_on-stood-requires : goal.stood_on-stood-requires
 stood_on-stood-requires g c = λ tells.
-    subst (λ (disk : _). KeepsOn g.D.Disk disk c.in-Ok.archive.journal) (sym c.told_by-given.ensures) (c.in-Ok.ensures.stood tells)
+    subst (λ (disk : _). KeepsOn g.D.Disk disk c.in-Ok.archive) (sym c.told_by-given.ensures) (c.in-Ok.ensures.stood tells)
 
 pub serve_watched-archive-requires : goal.serve_watched-archive-requires
 serve_watched-archive-requires g c = c.stood_on-stood.ensures.keeps
@@ -57,7 +57,8 @@ returns g c =
     (λ tells. record {
       stood = stood;
       on = subst (λ (disk : _). StoodOn g.D.Disk disk stood) c.told_by-given.ensures (c.stood_on-stood.ensures.on tells);
-      lasts = c.settle_and_close.ensures.lasts stood tells (c.serve_watched-archive.ensures.keeps tells);
+      began = c.stood_on-stood.ensures.book tells;
+      stands = c.settle_and_close.ensures.stands stood tells (c.serve_watched-archive.ensures.keeps tells);
     })
     (λ t u. c.serve_watched-archive.ensures.serves t u) c.serve_watched-archive.ensures.goes_on
     c.serve_watched-archive.ensures.ends c.in-Ok.ensures.prints_nothing)

@@ -3,7 +3,8 @@ use Rattle.std.proofs.Common.{ℕ, List, Option, IsTrue, refl, sym, ap, subst, �
 use Rattle.std.specs.Prelude.{IfSome}
 use Rattle.archive_core.specs.Holdings.{Holdings, contents_of}
 use Rattle.archive_reopening.specs.Known.{by_checkpoints}
-use Rattle.archive_core.specs.Stood.{KeepsStood, Stood}
+use Rattle.archive_core.specs.Lasting.{KeepsStored, StandsSince}
+use Rattle.archive_core.specs.Stood.{Stood}
 use Rattle.archive_reopening.specs.Standing.{KeepsOn, StoodOn}
 use Rattle.archive_opening.specs.Telling.{MayBeSettled}
 use Rattle.archive_volumes.specs.Volumes.{OpensNear}
@@ -39,7 +40,7 @@ new-requires-clause-right g c = λ sure. c.left_sure-sure.ensures.right
 
 pub stood_on-stood-requires : goal.stood_on-stood-requires
 stood_on-stood-requires g c = λ tells.
-    subst (λ (disk : _). KeepsOn g.D.Disk disk c.in-Ok.archive.journal) (sym c.told_by-given.ensures) (c.in-Ok.ensures.stood tells)
+    subst (λ (disk : _). KeepsOn g.D.Disk disk c.in-Ok.archive) (sym c.told_by-given.ensures) (c.in-Ok.ensures.stood tells)
 
 pub new-requires-clause-lasts : goal.new-requires-clause-lasts
 new-requires-clause-lasts g c = λ sure.
@@ -69,9 +70,9 @@ returns-in-Ok-new g c =
       right = ap (λ (s : Sure). s.right) sure;
       lasts = ap (λ (s : Sure). s.lasts) sure;
     } in
-    let on : IsTrue g.D.Disk.tells → StoodOn g.D.Disk c.args.disk c.in-Ok-new.unnamed.sure.stood = λ tells.
-    subst (λ (s : Stood). StoodOn g.D.Disk c.args.disk s) (sym (ap (λ (s : Sure). s.stood) sure))
-    (subst (λ (disk : _). StoodOn g.D.Disk disk c.stood_on-stood.result.value) c.told_by-given.ensures (c.stood_on-stood.ensures.on tells)) in
+    let on : IsTrue g.D.Disk.tells → StoodOn g.D.Disk c.args.disk c.in-Ok-new.unnamed.sure.stood × (c.in-Ok-new.unnamed.sure.stood.book ≡ c.in-Ok.archive.book) = λ tells.
+    subst (λ (s : Stood). StoodOn g.D.Disk c.args.disk s × (s.book ≡ c.in-Ok.archive.book)) (sym (ap (λ (s : Sure). s.stood) sure))
+    (subst (λ (disk : _). StoodOn g.D.Disk disk c.stood_on-stood.result.value) c.told_by-given.ensures (c.stood_on-stood.ensures.on tells), c.stood_on-stood.ensures.book tells) in
     let opened : OpensSettled g.D.Disk (by_checkpoints c.args.disk asked known) c.in-Ok.archive =
     subst (λ (a : Option (List ℕ)). OpensSettled g.D.Disk (by_checkpoints c.args.disk a known) c.in-Ok.archive) c.asked_of.ensures
     c.in-Ok.ensures.opened in
@@ -91,12 +92,14 @@ returns g c =
           c.in-Err-new.ensures.err c.settle_and_close.ensures.closed;
       near = subst (λ (h : Holdings g.row.D.Denot). IsTrue h.told → OpensNear g.D.Disk c.settle_and_close.result.disk h.book) c.in-Err-new.ensures.err
           c.settle_and_close.ensures.near;
-      bytes = λ tells. record {
+      stored = λ tells. record {
         stood = c.stood_on-stood.result.value;
         on = subst (λ (disk : _). StoodOn g.D.Disk disk c.stood_on-stood.result.value) c.told_by-given.ensures (c.stood_on-stood.ensures.on tells);
-        lasts = c.settle_and_close.ensures.lasts c.stood_on-stood.result.value tells
-            (subst (λ (h : Holdings g.row.D.Denot). KeepsStood g.D.Disk c.stood_on-stood.result.value h.journal) (sym c.in-Err-new.ensures.err)
-            (c.stood_on-stood.ensures.keeps tells));
+        began = c.stood_on-stood.ensures.book tells;
+        stands = subst (λ (h : Holdings g.row.D.Denot). StandsSince g.D.Disk c.stood_on-stood.result.value h.book c.settle_and_close.result.disk) c.in-Err-new.ensures.err
+            (c.settle_and_close.ensures.stands c.stood_on-stood.result.value tells
+            (subst (λ (h : Holdings g.row.D.Denot). KeepsStored g.D.Disk c.stood_on-stood.result.value h) (sym c.in-Err-new.ensures.err)
+            (c.stood_on-stood.ensures.keeps tells)));
       };
       untouched = ap (λ o. objects_of c.settle_and_close.result.disk c.args.gate.now c.args.crew.now.items o) c.in-Ok.ensures.prints_nothing;
     }))

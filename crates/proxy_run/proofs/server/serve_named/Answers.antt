@@ -29,7 +29,8 @@ returns g c = λ known asked disk before opened name on.
     c.settle_and_close.result.status c.settle_and_close.ensures.closed c.settle_and_close.ensures.near
     (λ stands tells. record {
       stood = g.J.Naming.vault.sure.stood;
-      on = subst (λ v. StoodOn g.D.Disk disk v.sure.stood) c.requires.name (on tells);
-      lasts = c.settle_and_close.ensures.lasts g.J.Naming.vault.sure.stood tells (stands tells);
+      on = subst (λ v. StoodOn g.D.Disk disk v.sure.stood) c.requires.name (on tells).0;
+      began = subst (λ v. v.sure.stood.book ≡ before.book) c.requires.name (on tells).1;
+      stands = c.settle_and_close.ensures.stands g.J.Naming.vault.sure.stood tells (stands tells);
     })
     (subst (λ n. drop n c.serve_by-said.new.crew.items ≡ drop n c.args.crew.now.items) many c.serve_by-said.ensures.same_others))

@@ -6,7 +6,7 @@ use Rattle.archive_volumes.proofs.ChangeLaws.{DiskLaws}
 use Rattle.archive_core.specs.Holdings.{Holdings}
 use Rattle.archive_core.specs.Told.{told_of}
 use Rattle.archive_core.proofs.ShelfLaws.{reads_on}
-use Rattle.archive_core.proofs.StoodLaws.{keeps_looks}
+use Rattle.archive_core.proofs.LastingLaws.{stored_looks}
 use Rattle.archive_reopening.proofs.watched.WatchedShelf.piece.Given.{Over}
 use Rattle.archive_reopening.proofs.watched.WatchedShelf.piece.Goals as goal
 
@@ -16,7 +16,8 @@ disk_laws g = record { earlier = g.met.D.Disk.earlier; now_counts = g.met.D.Disk
 
 pub invariant_of-self : goal.invariant_of-self
 invariant_of-self g c = λ tells.
-    keeps_looks g.D.Disk (disk_laws g) g.S.Since.stood c.self.inside.archive c.piece_numbered-answer.new.self tells c.piece_numbered-answer.ensures.looks (c.self.invariant tells)
+    stored_looks g.D.Disk (disk_laws g) g.S.Since.stood c.self.inside.archive c.piece_numbered-answer.new.self tells c.piece_numbered-answer.ensures.looks
+    (is_bring_fault c.piece_numbered-answer.result) c.piece_numbered-answer.ensures.faults (c.self.invariant tells)
 
 pub returns-clause-gives : goal.returns-clause-gives
 returns-clause-gives g c = c.piece_numbered-answer.ensures.gives

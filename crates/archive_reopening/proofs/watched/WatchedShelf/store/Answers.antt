@@ -6,7 +6,7 @@ use Rattle.archive_volumes.proofs.ChangeLaws.{DiskLaws}
 use Rattle.archive_core.specs.Holdings.{Holdings}
 use Rattle.archive_core.specs.Told.{told_of}
 use Rattle.archive_core.proofs.ShelfLaws.{just_read}
-use Rattle.archive_core.proofs.StoodLaws.{keeps_fills}
+use Rattle.archive_core.proofs.LastingLaws.{stored_behind}
 use Rattle.archive_reopening.proofs.watched.WatchedShelf.store.Given.{Over}
 use Rattle.archive_reopening.proofs.watched.WatchedShelf.store.Goals as goal
 
@@ -16,8 +16,8 @@ disk_laws g = record { earlier = g.met.D.Disk.earlier; now_counts = g.met.D.Disk
 
 pub invariant_of-self : goal.invariant_of-self
 invariant_of-self g c = λ tells.
-    keeps_fills g.D.Disk (disk_laws g) g.S.Since.stood c.self.inside.archive c.store_new-answer.new.self c.args.taken.now tells (c.self.invariant tells) c.store_new-answer.result
-    c.store_new-answer.ensures.stores.fills
+    stored_behind g.D.Disk (disk_laws g) g.S.Since.stood c.self.inside.archive c.store_new-answer.new.self c.args.taken.now tells (c.self.invariant tells)
+    c.store_new-answer.result c.store_new-answer.ensures.stores
 
 pub returns-clause-stores : goal.returns-clause-stores
 returns-clause-stores g c =

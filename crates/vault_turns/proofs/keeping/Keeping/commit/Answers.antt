@@ -6,7 +6,7 @@ use Rattle.capture.specs.declared.book.Book.{Book}
 use Rattle.archive_shelf.specs.Comparing.{IsRight}
 use Rattle.archive_volumes.proofs.ChangeLaws.{DiskLaws}
 use Rattle.history_lock.specs.Seen.{Adds}
-use Rattle.archive_core.proofs.StoodLaws.{keeps_fills}
+use Rattle.archive_core.proofs.LastingLaws.{stored_behind}
 use Rattle.archive_index.specs.Shown.{numbered}
 use Rattle.archive_core.specs.Told.{told_of}
 use Rattle.archive_shelf.proofs.CallLaws.{stored_goes_on}
@@ -55,8 +55,8 @@ invariant_of-self-2 g c =
           c.stored-answer.new.archive c.self.invariant.0.begun noting.joined grows store.told.crash.kept c.self.invariant.3,
       stays_stood g.D.Disk (values c.self.inside.history.items) noting.added (values c.note_store.new.history.items) c.self.inside.archive
           c.stored-answer.new.archive c.self.invariant.0.begun noting.joined
-          (λ tells keeps. keeps_fills g.D.Disk (disk_laws g) _ c.self.inside.archive c.stored-answer.new.archive c.args.taken.now tells keeps
-          c.stored-answer.result.0 store.fills) c.self.invariant.4,
+          (λ tells keeps. stored_behind g.D.Disk (disk_laws g) _ c.self.inside.archive c.stored-answer.new.archive c.args.taken.now tells keeps
+          c.stored-answer.result.0 store) c.self.invariant.4,
     )
 
 pub returns-clause-adds : goal.returns-clause-adds

@@ -1,7 +1,7 @@
 -- A payload was looked for.
 use Rattle.std.proofs.Common.{ap, subst, sym}
 use Rattle.std.specs.Prelude.{Contains}
-use Rattle.archive_core.proofs.StoodLaws.{keeps_looks}
+use Rattle.archive_core.proofs.LastingLaws.{stored_looks}
 use Rattle.archive_core.specs.Holdings.{Holdings}
 use Rattle.archive_index.specs.Shown.{numbered}
 use Rattle.archive_payloads.specs.Choosing.{is_look_fault}
@@ -44,7 +44,8 @@ invariant_of-self-2 g c =
           (ap (λ (held : Holdings _). held.book) c.compare-answer.ensures.only_looks.others) c.compare-answer.ensures.only_looks.unwritten.crash c.self.invariant.3,
       stays_stood g.D.Disk (values c.self.inside.history.items) (failing c.args.by (is_look_fault c.compare-answer.result)) (values c.note_fault.new.history.items)
           c.self.inside.archive c.compare-answer.new.self c.self.invariant.0.begun joined
-          (λ tells. keeps_looks g.D.Disk (disk_laws g) _ c.self.inside.archive c.compare-answer.new.self tells c.compare-answer.ensures.only_looks) c.self.invariant.4,
+          (λ tells. stored_looks g.D.Disk (disk_laws g) _ c.self.inside.archive c.compare-answer.new.self tells c.compare-answer.ensures.only_looks
+          (is_look_fault c.compare-answer.result) c.compare-answer.ensures.faults) c.self.invariant.4,
     )
 
 pub returns-clause-adds : goal.returns-clause-adds

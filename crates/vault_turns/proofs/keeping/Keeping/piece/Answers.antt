@@ -5,7 +5,7 @@ use Rattle.index_entry.specs.Facts.{Facts}
 use Rattle.archive_shelf.specs.Answers.{is_bring_fault}
 use Rattle.archive_shelf.specs.Contents.{Contents}
 use Rattle.archive_core.proofs.ShelfLaws.{reads_on}
-use Rattle.archive_core.proofs.StoodLaws.{keeps_looks}
+use Rattle.archive_core.proofs.LastingLaws.{stored_looks}
 use Rattle.archive_index.specs.Shown.{numbered}
 use Rattle.archive_volumes.proofs.ChangeLaws.{DiskLaws}
 use Rattle.history_lock.specs.Seen.{Adds}
@@ -45,7 +45,8 @@ invariant_of-self-2 g c =
           reads.stays.seen reads.unwritten.crash c.self.invariant.3,
       stays_stood g.D.Disk (values c.self.inside.history.items) (failing c.args.by (is_bring_fault c.piece_numbered-answer.result)) (values c.note_fault.new.history.items)
           c.self.inside.archive c.piece_numbered-answer.new.self c.self.invariant.0.begun joined
-          (λ tells. keeps_looks g.D.Disk (disk_laws g) _ c.self.inside.archive c.piece_numbered-answer.new.self tells c.piece_numbered-answer.ensures.looks) c.self.invariant.4,
+          (λ tells. stored_looks g.D.Disk (disk_laws g) _ c.self.inside.archive c.piece_numbered-answer.new.self tells c.piece_numbered-answer.ensures.looks
+          (is_bring_fault c.piece_numbered-answer.result) c.piece_numbered-answer.ensures.faults) c.self.invariant.4,
     )
 
 pub returns-clause-adds : goal.returns-clause-adds
