@@ -1,6 +1,6 @@
 -- Reads that gave nothing leave the input as it was, as far as that is known.
 use Rattle.std.proofs.Common.{◌≡◌, ℕ, ◌+◌, ◌<◌, false, true, List, Option, None, Some, Result, Ok, Err, ◌∙◌, refl, sym, take, arith}
-use Rattle.std.specs.Io.KnownBytes.{Keeps, Consumes, ReadConsumes}
+use Rattle.std.specs.Io.KnownBytes.{Keeps, Consumes}
 use Rattle.std.proofs.KnownBytes.{Keeps-trans}
 use Rattle.system_network.specs.Streams.{Input, Reads}
 

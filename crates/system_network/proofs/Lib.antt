@@ -1,1 +1,2 @@
+mod AddressLaws
 mod Inputs

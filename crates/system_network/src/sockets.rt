@@ -1,6 +1,9 @@
 //! The system's network.
-ghost use Rattle.std.specs.Prelude.{◌≤◌, length, IfOk};
-ghost use Rattle.std.specs.Iterator.{IsFinite};
+ghost use Rattle.std.specs.Prelude.{◌≡◌, ◌<◌, ◌≤◌, true, List, [], ◌∷◌, ◌++◌, cond, length, IfOk};
+ghost use Rattle.std.specs.Iterator.{IsFinite, Drains};
+ghost use Rattle.std.specs.declared.net.socket_addr.SocketAddr.{SocketAddr};
+ghost use Rattle.system_network.specs.Addresses as spec;
+ghost use Rattle.system_network.specs.Addresses.{goes_before, ArePut};
 
 use crate::causes::Causes;
 use crate::error_lines::put_line;
@@ -127,21 +130,71 @@ impl Network for HostRuntime {
     }
 }
 
-/// Puts the first addresses at the front of `found`, as many as there is room for, and answers how many.
+/// Puts the first addresses at the front of `found`, as many as there is room for, and answers how many. Where these
+/// would be of one family, IPv4 or IPv6, the last place is for the first address of the other one.
 pub fn put_first<I: Iterator<Item = SocketAddr> + Drop>(
     addresses: I,
     found: &mut [SocketAddr],
 ) -> usize
     requires ends { I.Iterator.can_next addresses × IsFinite (I.Iterator.remaining addresses) }
-    ensures { result ≤ length found.new }
+    ensures bound { result ≤ length found.new }
+    ensures found { (came : List SocketAddr) × Drains I.Iterator.next_gives addresses came × ArePut came found.old found.new result }
 {
     let mut n = 0;
     for address in addresses {
-        let Some(place) = found.get_mut(n) else {
-            break;
-        };
-        *place = address;
-        n += 1;
+        if n < found.len() {
+            found[n] = address;
+            n += 1;
+        } else {
+            put_last(found, address);
+        }
     }
     n
+}
+
+/// Puts an address in the last place where it goes before the one that stands there.
+fn put_last(found: &mut [SocketAddr], address: SocketAddr)
+    ensures none { found.old ≡ [] → found.new ≡ [] }
+    ensures last { (before : List SocketAddr) (last : SocketAddr) → found.old ≡ before ++ last ∷ [] → found.new ≡ before ++ cond (goes_before before address last) address last ∷ [] }
+{
+    if goes_last(found, address) {
+        let end = found.len() - 1;
+        found[end] = address;
+    }
+}
+
+/// Whether an address is of a family that none before the last of these has, and the last one isn't.
+fn goes_last(kept: &[SocketAddr], address: SocketAddr) -> bool
+    ensures some { result ≡ true → 0 < length kept.now }
+    ensures last { (before : List SocketAddr) (last : SocketAddr) → kept.now ≡ before ++ last ∷ [] → result ≡ goes_before before address last }
+{
+    let Some((last, before)) = kept.split_last() else {
+        return false;
+    };
+    if has_kin(before, address) {
+        return false;
+    }
+    has_kin(before, *last)
+}
+
+/// Whether one of these addresses is of the same family.
+fn has_kin(before: &[SocketAddr], address: SocketAddr) -> bool
+    ensures { result ≡ spec.has_kin before.now address }
+{
+    for other in before {
+        if is_kin(address, *other) {
+            return true;
+        }
+    }
+    false
+}
+
+/// Whether two addresses are of one family, IPv4 or IPv6.
+fn is_kin(one: SocketAddr, other: SocketAddr) -> bool
+    ensures { result ≡ spec.is_kin one other }
+{
+    match one {
+        SocketAddr::V4(_) => other.is_ipv4(),
+        SocketAddr::V6(_) => other.is_ipv6(),
+    }
 }

@@ -5,6 +5,8 @@
 #[cfg(test)]
 mod accepting;
 #[cfg(test)]
+mod addresses;
+#[cfg(test)]
 mod checked;
 #[cfg(test)]
 mod places;

@@ -3,30 +3,9 @@ use crate::checked::check;
 use call_log::{Written, answered, then, written};
 use std::io;
 use std::io::Read;
-use std::net::{IpAddr, Ipv4Addr, SocketAddr, TcpListener};
+use std::net::{IpAddr, TcpListener};
 use std::time::Duration;
-use system_network::{Network, Socket, SystemSocket, put_first};
-
-/// The loopback's address at a port.
-fn at(port: u16) -> SocketAddr {
-    SocketAddr::from((Ipv4Addr::LOCALHOST, port))
-}
-
-/// How many addresses were put into two places, and what stands there then.
-fn printed(many: usize, found: &[SocketAddr; 2]) -> Written {
-    let [first, second] = found;
-    written(format_args!("{many} {first} {second}"))
-}
-
-// No case can say it: a case looks no host up.
-#[test]
-fn finds_as_many_addresses_as_there_is_room_for(rt: HostRuntime) {
-    let mut found = [at(9), at(9)];
-    let one = put_first([at(1)].into_iter(), &mut found);
-    check(&rt, printed(one, &found), "1 127.0.0.1:1 127.0.0.1:9");
-    let two = put_first([at(1), at(2), at(3)].into_iter(), &mut found);
-    check(&rt, printed(two, &found), "2 127.0.0.1:1 127.0.0.1:2");
-}
+use system_network::{Network, Socket, SystemSocket};
 
 /// A listener, and a connection of this process to it.
 fn connected(mut rt: HostRuntime) -> io::Result<(TcpListener, SystemSocket)> {
