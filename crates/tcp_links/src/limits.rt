@@ -33,6 +33,8 @@ pub struct Limits {
     pub connect: u64,
     /// For all that a client still sends after the last answer to it.
     pub linger: u64,
+    /// For the same, while another connection waits to be read. So often that is asked.
+    pub linger_crowded: u64,
     /// Before the next try where there is no room for a connection.
     pub pause: u64,
     /// How often that is tried where the system has no memory.
@@ -60,7 +62,8 @@ pub struct Limits {
 /// - A write that waits for room tells at its end how many bytes the system took at its beginning. So it waits a second
 ///   at most, and what it took is no sign that the peer took some since.
 /// - An origin's addresses share a quarter of a minute, for which a person may wait for a page.
-/// - Two seconds after the last answer let it arrive before the connection is reset.
+/// - Two seconds after the last answer let it arrive before the connection is reset. While a connection waits it is a tenth of
+///   one, so that clients which don't close their end, as many as there are workers, don't stop a server.
 /// - Where there is no room, a twentieth of a second lets workers close what they serve.
 /// - A process may have 1,024 descriptors, and 256 clients leave as many for origins and for files as are used.
 pub const LIMITS: Limits = Limits {
@@ -79,6 +82,7 @@ pub const LIMITS: Limits = Limits {
     whole_crowded: 60_000,
     connect: 15_000,
     linger: 2_000,
+    linger_crowded: 100,
     pause: 50,
     most_pauses: 100,
     most_clients: 256,

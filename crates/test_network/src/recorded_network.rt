@@ -27,6 +27,7 @@ pub(crate) const LIMITS: Limits = Limits {
     whole_crowded: 2_500,
     connect: 900,
     linger: 400,
+    linger_crowded: 200,
     pause: 5,
     most_pauses: 3,
     most_clients: 2,

@@ -122,7 +122,7 @@ fn told(link: &mut TcpLink<RecordedSocket>, steps: &[Step]) -> Written {
     joined(joined(told, millis.as_str()), socket.causes.as_str())
 }
 
-static ROWS: [Row; 31] = [
+static ROWS: [Row; 33] = [
     (
         Client,
         false,
@@ -247,21 +247,35 @@ static ROWS: [Row; 31] = [
         false,
         Peer::Slow(10_000),
         &[Answer, End],
-        "at once;out 500;write;end output;in 400;read;in 250;read;in 100;read; 19;0; 400",
+        "at once;out 500;write;end output;in 200;read;in 200;read;in 100;read; 19;0; 400",
+    ),
+    (
+        Client,
+        true,
+        Peer::Slow(10_000),
+        &[Answer, End],
+        "at once;out 500;write;end output;in 200;read;in 200;read; 19;0; 300",
     ),
     (
         Client,
         false,
         Peer::Silent,
         &[Answer, End],
-        "at once;out 500;write;end output;in 400;read; 19;0; 400",
+        "at once;out 500;write;end output;in 200;read;in 200;read; 19;0; 400",
+    ),
+    (
+        Client,
+        true,
+        Peer::Silent,
+        &[Answer, End],
+        "at once;out 500;write;end output;in 200;read; 19;0; 200",
     ),
     (
         Client,
         false,
         Peer::Ended,
         &[Answer, End],
-        "at once;out 500;write;end output;in 400;read; 19;0; 0",
+        "at once;out 500;write;end output;in 200;read; 19;0; 0",
     ),
     (
         Client,
@@ -360,8 +374,9 @@ type Lasting = (Who, bool, Peer, &'static [Step], Step, u64);
 
 /// What a user meets, by the limits of the program: a client that says nothing, one that stops, a head of which a byte a
 /// second comes, an idle one, an origin that says nothing, events of 20 bytes a second, and peers that take nothing, or
-/// nothing but what their system keeps for them, or a byte now and then.
-static LASTING: [Lasting; 17] = [
+/// nothing but what their system keeps for them, or a byte now and then. Behind an end, 2,000 milliseconds or 100 where another
+/// waits, there is nothing to read but by the limits of a new connection.
+static LASTING: [Lasting; 19] = [
     (Client, false, Peer::Silent, &[], Read, 10_000),
     (Client, true, Peer::Silent, &[], Read, 2_000),
     (Client, true, Peer::SendsOnce(10), &[], Read, 5_000),
@@ -393,6 +408,8 @@ static LASTING: [Lasting; 17] = [
     (Origin, true, Peer::TakesNothing, &[], Answer, 30_000),
     (Client, false, Peer::TakesBytes, &[], Answer, 600_428),
     (Client, true, Peer::TakesBytes, &[], Answer, 60_042),
+    (Client, false, Peer::Silent, &[Answer, End], Read, 12_000),
+    (Client, true, Peer::Silent, &[Answer, End], Read, 2_100),
 ];
 
 /// More calls than succeed on any of these connections.

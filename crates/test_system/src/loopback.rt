@@ -34,6 +34,7 @@ const SHORT: Limits = Limits {
     whole_crowded: 1_000,
     connect: 200,
     linger: 50,
+    linger_crowded: 50,
     pause: 1,
     most_pauses: 1,
     most_clients: 1,

@@ -324,7 +324,7 @@ impl<S: Socket> TcpLink<S> {
     /// Ends the connection of a client, so that what was written last arrives.
     pub fn end(&mut self) {
         if self.answered && !self.ended && !self.failed {
-            linger(&mut self.socket, self.limits.linger);
+            linger(&mut self.socket, &self.place, &self.limits);
         }
     }
 }
