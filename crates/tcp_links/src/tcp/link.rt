@@ -1,5 +1,5 @@
 //! One end of a TCP connection, with limits of time.
-ghost use Rattle.std.specs.Prelude.{◌≡◌, ◌<◌, ◌≤◌, true, false, length, IfOk, IsErr};
+ghost use Rattle.std.specs.Prelude.{◌≡◌, ◌<◌, ◌≤◌, true, false, length, IfOk, OnOk, OnErr, IsErr};
 ghost use Rattle.std.specs.Io.{ReadsAtMost};
 
 use crate::limits::Limits;
@@ -112,6 +112,10 @@ impl<S: Socket> TcpLink<S> {
         ensures meets_end { IfOk result (λ n. n ≡ 0 → self.new.ended ≡ true) }
         ensures stays_ended { self.old.ended ≡ true → self.old.failed ≡ false → result ≡ Ok 0 }
         ensures stays_failed { self.old.failed ≡ true → IsErr result }
+        ensures fails { OnErr result (self.new.failed ≡ true) }
+        ensures same_failure { OnOk result (self.new.failed ≡ self.old.failed) }
+        ensures same_end { IfOk result (λ n. 0 < n → self.new.ended ≡ self.old.ended) }
+        ensures same_end_failed { OnErr result (self.new.ended ≡ self.old.ended) }
     {
         if self.failed {
             return Err(io::Error::from(ErrorKind::NotConnected));
@@ -136,6 +140,8 @@ impl<S: Socket> TcpLink<S> {
     /// Reads once, within the limits of what is awaited.
     fn read_within(&mut self, into: &mut [u8]) -> io::Result<usize>
         ensures bound { ReadsAtMost result into.new }
+        ensures same_end { self.new.ended ≡ self.old.ended }
+        ensures same_failure { self.new.failed ≡ self.old.failed }
     {
         let limits = self.limits;
         match self.awaited {
@@ -172,6 +178,8 @@ impl<S: Socket> TcpLink<S> {
         asks: u64,
     ) -> io::Result<usize>
         ensures bound { ReadsAtMost result into.new }
+        ensures same_end { self.new.ended ≡ self.old.ended }
+        ensures same_failure { self.new.failed ≡ self.old.failed }
     {
         self.place.serve();
         let start = self.socket.time()?;
@@ -199,7 +207,10 @@ impl<S: Socket> TcpLink<S> {
     }
 
     /// How much of a request's own time has gone since a read began: none before its first byte.
-    fn spent_since(&mut self, start: Duration) -> io::Result<u64> {
+    fn spent_since(&mut self, start: Duration) -> io::Result<u64>
+        ensures same_end { self.new.ended ≡ self.old.ended }
+        ensures same_failure { self.new.failed ≡ self.old.failed }
+    {
         match self.awaited {
             Awaited::More => millis_since(&mut self.socket, start),
             _ => Ok(0),
@@ -209,6 +220,8 @@ impl<S: Socket> TcpLink<S> {
     /// Reads a piece of a response within so many milliseconds.
     fn read_response(&mut self, into: &mut [u8], most: u64) -> io::Result<usize>
         ensures bound { ReadsAtMost result into.new }
+        ensures same_end { self.new.ended ≡ self.old.ended }
+        ensures same_failure { self.new.failed ≡ self.old.failed }
     {
         self.limit_reads(most)?;
         let start = self.socket.time()?;
@@ -224,6 +237,8 @@ impl<S: Socket> TcpLink<S> {
     pub fn write(&mut self, piece: &[u8]) -> io::Result<usize>
         ensures some { IfOk result (λ n. 0 < n) }
         ensures fits { IfOk result (λ n. n ≤ length piece.now) }
+        ensures same_end { self.new.ended ≡ self.old.ended }
+        ensures same_failure { self.new.failed ≡ self.old.failed }
     {
         self.place.serve();
         match self.write_within(piece) {
@@ -239,6 +254,8 @@ impl<S: Socket> TcpLink<S> {
     fn write_within(&mut self, piece: &[u8]) -> io::Result<usize>
         ensures some { IfOk result (λ n. 0 < n) }
         ensures fits { IfOk result (λ n. n ≤ length piece.now) }
+        ensures same_end { self.new.ended ≡ self.old.ended }
+        ensures same_failure { self.new.failed ≡ self.old.failed }
     {
         let most = self.limits.write.min(self.left_of_whole(self.to_write));
         let start = self.socket.time()?;
@@ -253,6 +270,8 @@ impl<S: Socket> TcpLink<S> {
     fn write_by_turns(&mut self, piece: &[u8], most: u64, start: Duration) -> io::Result<usize>
         ensures some { IfOk result (λ n. 0 < n) }
         ensures fits { IfOk result (λ n. n ≤ length piece.now) }
+        ensures same_end { self.new.ended ≡ self.old.ended }
+        ensures same_failure { self.new.failed ≡ self.old.failed }
     {
         let turn = self.limits.write_turn;
         let mut gone = 0;
@@ -290,7 +309,10 @@ impl<S: Socket> TcpLink<S> {
     }
 
     /// Tells why a call failed. A connection on which a request was awaited is let go without a word.
-    fn tell(&mut self, call: &str, error: &io::Error) {
+    fn tell(&mut self, call: &str, error: &io::Error)
+        ensures same_end { self.new.ended ≡ self.old.ended }
+        ensures same_failure { self.new.failed ≡ self.old.failed }
+    {
         if self.awaited == Awaited::More || self.awaited == Awaited::Response {
             let peer = self.socket.peer();
             self.socket.tell(peer, call, error);
@@ -298,7 +320,10 @@ impl<S: Socket> TcpLink<S> {
     }
 
     /// Limits the socket's reads, where they aren't limited so. No time left is a failure.
-    fn limit_reads(&mut self, millis: u64) -> io::Result<()> {
+    fn limit_reads(&mut self, millis: u64) -> io::Result<()>
+        ensures same_end { self.new.ended ≡ self.old.ended }
+        ensures same_failure { self.new.failed ≡ self.old.failed }
+    {
         if millis == 0 {
             return Err(io::Error::from(ErrorKind::TimedOut));
         }
@@ -310,7 +335,10 @@ impl<S: Socket> TcpLink<S> {
     }
 
     /// Limits the socket's writes, likewise.
-    fn limit_writes(&mut self, millis: u64) -> io::Result<()> {
+    fn limit_writes(&mut self, millis: u64) -> io::Result<()>
+        ensures same_end { self.new.ended ≡ self.old.ended }
+        ensures same_failure { self.new.failed ≡ self.old.failed }
+    {
         if millis == 0 {
             return Err(io::Error::from(ErrorKind::TimedOut));
         }
