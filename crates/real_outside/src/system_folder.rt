@@ -86,9 +86,11 @@ impl SilentFolders for SystemFolders {
 }
 
 impl SystemFolder {
-    /// The folder at a path, held so.
+    /// The folder at a path, held so. It is opened by its name within itself, which nothing but a folder has: the open of a
+    /// named pipe would wait for whoever writes into it.
     pub fn held_at(system: HostRuntime, path: &str, lock: Lock) -> io::Result<SystemFolder> {
-        let folder = File::open(&system, path)?;
+        let itself = format!(in system.alloc(); "{path}/.")?;
+        let folder = File::open(&system, itself.as_str())?;
         needed_lock(lock, locked(&folder, lock))?;
         let path = String::from_str(system.alloc(), path)?;
         Ok(SystemFolder {
