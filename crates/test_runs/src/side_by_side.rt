@@ -1,5 +1,5 @@
 //! Two connections that a server serves at once.
-ghost use Rattle.std.specs.Prelude.{◌≡◌, ◌≤◌, [], false, length, IfOk};
+ghost use Rattle.std.specs.Prelude.{◌≡◌, ◌≤◌, [], false, length};
 ghost use Rattle.outside.specs.Link.{no_traffic};
 ghost use Rattle.outside.specs.Gate.{heard_of, no_connections};
 ghost use Rattle.outside.specs.Records.{nothing_out};

@@ -1,6 +1,6 @@
 //! The system's sockets and addresses.
 use crate::checked::check;
-use call_log::{Written, answered, then, written};
+use call_log::{Written, answered, then};
 use std::io;
 use std::io::Read;
 use std::net::{IpAddr, TcpListener};
